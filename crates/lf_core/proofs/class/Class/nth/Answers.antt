@@ -1,0 +1,28 @@
+use Rattle.std.proofs.Common.{◌∷◌, [], ap, sym, length, length-append, arith}
+use Rattle.lf_core.specs.Class.{members_below}
+use Rattle.lf_core.proofs.Members.{members_below-none, members_below-in, members_below-out, members_below-at}
+use Rattle.lf_core.proofs.class.Class.nth.Goals as goal
+use Rattle.lf_core.proofs.class.Class.nth.Goals.{then-has+else-lesser-n, else-has}
+
+pub loop-b-init : goal.loop-b-init
+loop-b-init c = (omega (arith, ap length (members_below-none c.args.self.now)), omega arith)
+
+pub returns-then-lesser-n : goal.returns-then-lesser-n
+returns-then-lesser-n c =
+    let set = c.args.self.now in
+    let b = c.loop-b.b in
+    rw (← c.if-lesser-n.true, c.loop-b.invariant.0) (sym (members_below-at set b (omega arith) (rw (← c.has.ensures) c.if-has.true)))
+
+pub loop-b-preserved : goal.loop-b-preserved
+loop-b-preserved c =
+    let set = c.args.self.now in
+    let b = c.loop-b.b in
+    let inv = c.loop-b.invariant in
+    elim c.if-has.branch [
+      | then-has+else-lesser-n w ↦
+          let e = ap length (members_below-in set b (rw (← c.has.ensures) w.if-has.true)) in
+          (omega (arith, inv.0, w.lesser-is, e, length-append (members_below set b) (b ∷ [])), omega (arith, inv.1, w.lesser-is, w.if-lesser-n.false))
+      | else-has w ↦
+          let e = ap length (members_below-out set b (rw (← c.has.ensures) w.if-has.false)) in
+          (omega (arith, inv.0, w.lesser-is, e), omega (arith, inv.1, w.lesser-is))
+    ]

@@ -1,0 +1,4 @@
+pub mod Adds
+pub mod Class
+pub mod Domain
+pub mod Marked

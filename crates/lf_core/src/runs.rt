@@ -1,0 +1,60 @@
+ghost use Rattle.std.specs.Prelude.{◌≡◌, ◌<◌, [], ◌∷◌, ◌++◌, length, slice_index_or, OnOk, OnErr};
+ghost use Rattle.lf_core.specs.Marked.{no_move};
+
+use crate::marked::Move;
+use crate::memory::OutOfMemory;
+use std::alloc::Global;
+use std::marker::Model;
+
+/// A list of moves.
+#[derive(Debug, Drop)]
+pub struct Run {
+    moves: Vec<Move>,
+}
+
+impl Model for Run {
+    ghost use Rattle.std.specs.Prelude.{List};
+    ghost use Rattle.lf_core.specs.declared.marked.Move.{Move};
+
+    ghost Value = { List Move };
+
+    ghost view = { λ r. r.moves.items };
+}
+
+impl Run {
+    pub fn new(alloc: Global) -> Run
+        ensures { result ≡ [] }
+    {
+        Run {
+            moves: Vec::new(alloc),
+        }
+    }
+
+    /// After want of memory the run is as it was.
+    pub fn push(&mut self, step: Move) -> Result<(), OutOfMemory>
+        ensures ok { OnOk result (self.new ≡ self.old ++ step ∷ []) }
+        ensures err { OnErr result (self.new ≡ self.old) }
+    {
+        self.moves.push(step)?;
+        Ok(())
+    }
+
+    pub fn len(&self) -> usize
+        ensures { result ≡ length self.now }
+    {
+        self.moves.len()
+    }
+
+    pub fn get(&self, at: usize) -> Move
+        requires { at < length self.now }
+        ensures { result ≡ slice_index_or self.now at no_move }
+    {
+        self.moves[at]
+    }
+
+    pub fn as_slice(&self) -> &[Move]
+        ensures { result.now ≡ self.now }
+    {
+        self.moves.as_slice()
+    }
+}
