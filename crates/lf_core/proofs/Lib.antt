@@ -1,3 +1,4 @@
 pub mod Bits
 pub mod Accepts
 pub mod Members
+pub mod WrittenLaws

@@ -1,5 +1,5 @@
 -- Marked machines, and runs over byte lists.
-use Rattle.std.specs.Prelude.{◌≡◌, ℕ, ◌<◌, List, [], ◌∷◌, Bool, true, All, Contains}
+use Rattle.std.specs.Prelude.{◌≡◌, ℕ, ◌<◌, ◌≤◌, List, [], ◌∷◌, Bool, true, All, Contains}
 use Rattle.lf_core.specs.declared.marked.Move.{Move}
 
 -- A machine over bytes whose moves carry marks. Its points are the numbers below `count`.
@@ -35,8 +35,10 @@ abbrev pub NoneTwice : {A : Type 0} → List A → Type 0
 NoneTwice [] = Unit {0}
 NoneTwice (x ∷ xs) = (Contains xs x → ⊥) × NoneTwice xs
 
--- What each machine keeps: the start and the ends of moves are points, and no move is listed twice.
+-- What each machine keeps: the start and the ends of moves are points, no move is listed twice,
+-- and a number that is no byte has no move.
 pub record IsMachine (machine : Machine) : Type 0 where
   pub begins : machine.first < machine.count
   pub once : (point byte : ℕ) → point < machine.count → NoneTwice (machine.moves point byte)
   pub stays : (point byte : ℕ) → point < machine.count → All (λ m. m.to < machine.count) (machine.moves point byte)
+  pub bytes : (point byte : ℕ) → point < machine.count → 256 ≤ byte → machine.moves point byte ≡ []

@@ -20,3 +20,6 @@ pub use records::Record;
 pub use runs::Run;
 pub use texts::Str;
 pub use values::{Moment, Value};
+
+#[cfg(test)]
+mod tests;

@@ -1,0 +1,115 @@
+use crate::{Bytes, Class, Moment, Move, OutOfMemory, Record, Run, Str, Value};
+use std::alloc::Global;
+use std::test::Fail;
+
+/// Whether the set has exactly the bytes of which the test is true.
+fn has_just<F: Fn(u8) -> bool>(class: Class, is_wanted: F) -> bool
+    requires { F.IsAlwaysCallable is_wanted }
+{
+    let mut rank = 0;
+    for b in 0..=255u8 {
+        if class.has(b) != is_wanted(b) {
+            return false;
+        }
+        if class.has(b) && rank < class.count() {
+            if class.nth(rank) != b {
+                return false;
+            }
+            rank += 1;
+        }
+    }
+    rank == class.count() && class.is_empty() == (rank == 0)
+}
+
+#[test]
+fn classes_have_their_bytes(rt: HostRuntime) -> Result<(), Fail> {
+    let visible = Class::of(0x21, 0x7e);
+    assert!(rt; has_just(visible, |b| b'!' <= b && b <= b'~'));
+    assert!(rt;
+        has_just(
+            visible.without(b'+'),
+            |b| b'!' <= b && b <= b'~' && b != b'+'
+        )
+    );
+    assert!(rt;
+        has_just(
+            Class::of(b'0', b'9').with(b'.'),
+            |b| b.is_ascii_digit() || b == b'.'
+        )
+    );
+    assert!(rt; has_just(Class::of(0, 255).without(b' '), |b| b != 0x20));
+    Ok(())
+}
+
+#[test]
+fn classes_meet(rt: HostRuntime) -> Result<(), Fail> {
+    let all = Class::of(0, 255);
+    let none = Class::of(1, 0);
+    assert!(rt; has_just(none, |_b| false));
+    assert!(rt; has_just(all, |_b| true));
+    assert!(rt;
+        has_just(
+            Class::of(0x80, 0xff).both(Class::of(0x70, 0x8f)),
+            |b| 0x80 <= b && b < 0x90
+        )
+    );
+    assert!(rt; has_just(all.both(none), |_b| false));
+    Ok(())
+}
+
+fn text_of(alloc: Global, letters: &[u8]) -> Result<Bytes, OutOfMemory> {
+    let mut text = Bytes::new(alloc);
+    text.extend(letters)?;
+    Ok(text)
+}
+
+/// A record with a value of each kind.
+fn each_kind(alloc: Global) -> Result<Record, OutOfMemory> {
+    let mut rec = Record::new(alloc);
+    rec.push(Value::Missing)?;
+    rec.push(Value::Num(-7))?;
+    rec.push(Value::Text(text_of(alloc, b"a\n")?))?;
+    rec.push(Value::Moment(Moment {
+        seconds: 1,
+        millis: 2,
+        offset: -3,
+    }))?;
+    rec.push(Value::Day(-4))?;
+    rec.push(Value::Clock(5))?;
+    Ok(rec)
+}
+
+#[test]
+fn copies_are_equal(rt: HostRuntime) -> Result<(), Fail> {
+    let rec = each_kind(rt.alloc()).ok().ok_or("memory")?;
+    let copy = rec.copy().ok().ok_or("memory")?;
+    let text = format!(in rt.alloc(); "{rec:?}")?;
+    let again = format!(in rt.alloc(); "{copy:?}")?;
+    assert_eq!(rt; text.as_str(), again.as_str());
+    assert_eq!(rt; copy.len(), 6);
+    Ok(())
+}
+
+#[test]
+fn runs_and_texts_keep_what_they_are_given(rt: HostRuntime) -> Result<(), Fail> {
+    let mut run = Run::new(rt.alloc());
+    run.push(Move { mark: 1, to: 2 }).ok().ok_or("memory")?;
+    assert_eq!(rt; run.as_slice(), [Move { mark: 1, to: 2 }].as_slice());
+    let text = Str::of(rt.alloc(), "héllo").ok().ok_or("memory")?;
+    assert_eq!(rt; text.as_str(), "héllo");
+    Ok(())
+}
+
+fn shared<T: Send + Sync>(_value: &T) {}
+
+#[test]
+fn types_are_shared_by_threads(rt: HostRuntime) -> Result<(), Fail> {
+    let rec = each_kind(rt.alloc()).ok().ok_or("memory")?;
+    shared(&rec);
+    shared(&Run::new(rt.alloc()));
+    shared(&Class::of(0, 0));
+    let text = Str::of(rt.alloc(), "a").ok().ok_or("memory")?;
+    shared(&text);
+    shared(&OutOfMemory);
+    Ok(())
+}
