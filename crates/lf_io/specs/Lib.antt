@@ -1,0 +1,7 @@
+pub mod Faults
+pub mod Moves
+pub mod Steps
+pub mod SureText
+pub mod MemorySource
+pub mod MemorySink
+pub mod SystemStreams
