@@ -1,0 +1,4 @@
+pub mod Texts
+pub mod TextLaws
+pub mod WordLists
+pub mod WordLaws

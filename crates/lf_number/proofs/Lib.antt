@@ -1,0 +1,4 @@
+pub mod Places
+pub mod ReadBack
+pub mod StdDecimals
+pub mod PlainDigits

@@ -1,0 +1,91 @@
+-- How a text is read: one number can have it, and that number's text is compared.
+use Rattle.std.proofs.Common.{◌≡◌, ℕ, suc, ◌-◌, ◌≤◌, ◌^◌, List, [], ◌++◌, min, Bool, true, false, ◌==◌, refl, sym, ap, subst, ◌∙◌, arith}
+use Rattle.std.specs.Prelude.{ℤ, pos, negsuc, ◌≤ℤ◌, FitsSigned, Option, None, Some, MatchOption, ◌≢◌}
+use Rattle.std.specs.Int.{w64}
+use Rattle.std.proofs.lemmas.Int.{ints}
+use Rattle.std.proofs.lemmas.Bool.Decides.{nat_tests, Decides-eqb}
+use Rattle.std.proofs.lemmas.Slice.Eq.{slice_eq-Decides}
+use Rattle.std.specs.Cmp.Lexicographic.{pointwise}
+use Rattle.std.proofs.Math.Dec.{eqb}
+use Rattle.lf_core.specs.declared.values.Value.{Value}
+use Rattle.lf_core.specs.declared.values.Value.TheVariants.{Num}
+use Rattle.lf_number.specs.Numbers.{decimal, number_text, is_negative, magnitude, num_text, HoldsNumber}
+use Rattle.lf_number.specs.Machines.{value_after, has_minus}
+use Rattle.lf_number.specs.Digits.{ten, value-digits, value-other, digits-head, minus-no_digit}
+
+-- what `signed` tells of a sign and a magnitude
+abbrev pub IsSigned : Bool → ℕ → Option ℤ → Type 0
+IsSigned negative value r = MatchOption r ((m : ℤ) → FitsSigned w64 m → is_negative m ≡ negative → magnitude m ≢ value) (λ m. (is_negative m ≡ negative) × (magnitude m ≡ value))
+
+magnitude-fits : (n : ℤ) → FitsSigned w64 n → magnitude n ≤ 2 ^ 63
+magnitude-fits (pos k) f = omega (arith, ints)
+magnitude-fits (negsuc k) f = omega (arith, ints)
+
+same-sign : (n m : ℤ) → is_negative m ≡ is_negative n → magnitude m ≡ magnitude n → m ≡ n
+same-sign (pos k) (pos l) s e = ap pos e
+same-sign (pos k) (negsuc l) s e = cc
+same-sign (negsuc k) (pos l) s e = cc
+same-sign (negsuc k) (negsuc l) s e = let z : l ≡ k = omega arith in ap negsuc z
+
+signed-is : (n : ℤ) (negative : Bool) (value : ℕ) (r : Option ℤ) → FitsSigned w64 n → is_negative n ≡ negative → magnitude n ≡ value → IsSigned negative value r → r ≡ Some n
+signed-is n negative value None f s e h = absurd (h n f s e)
+signed-is n negative value (Some m) f s e h = ap Some (same-sign n m (h.0 ∙ sym s) (h.1 ∙ sym e))
+
+apart : (c : ℕ) → 48 ≤ c → (c == 45) ≡ false
+apart c h = grind (arith, nat_tests)
+
+unwrap : (a b : ℤ) → Some a ≡ Some b → a ≡ b
+unwrap a b e = cc
+
+minus-digits : (n : ℕ) → has_minus (decimal n) ≡ false
+minus-digits n =
+    let r = digits-head 10 ten n in
+    let t : (r.0 == 45) ≡ false = apart r.0 r.3 in
+    ap has_minus r.2 ∙ t
+
+text-sign : (n : ℤ) → has_minus (number_text n) ≡ is_negative n
+text-sign (pos n) = minus-digits n
+text-sign (negsuc n) = refl
+
+text-value : (n : ℤ) → value_after 10 0 (number_text n) ≡ magnitude n
+text-value (pos n) = value-digits 10 ten n
+text-value (negsuc n) = value-other 10 ten 45 (decimal (suc n)) 0 minus-no_digit ∙ value-digits 10 ten (suc n)
+
+capped : (k value : ℕ) → k ≤ 2 ^ 63 → value ≡ min k (2 ^ 64 - 1) → k ≡ value
+capped k value h e = omega arith
+
+pub candidate-is : (n : ℤ) (text : List ℕ) (negative : Bool) (value : ℕ) (r : Option ℤ) → FitsSigned w64 n → number_text n ≡ text → negative ≡ has_minus text → value ≡ min (value_after 10 0 text) (2 ^ 64 - 1) → IsSigned negative value r → r ≡ Some n
+candidate-is n text negative value r f e s v h =
+    let k : is_negative n ≡ negative = sym (text-sign n) ∙ ap has_minus e ∙ sym s in
+    let m : value_after 10 0 text ≡ magnitude n = ap (value_after 10 0) (sym e) ∙ text-value n in
+    signed-is n negative value r f k (capped (magnitude n) value (magnitude-fits n f) (v ∙ ap (λ (x : ℕ). min x (2 ^ 64 - 1)) m)) h
+
+fits-between : (lo hi n : ℤ) → FitsSigned w64 lo → FitsSigned w64 hi → lo ≤ℤ n → n ≤ℤ hi → FitsSigned w64 n
+fits-between lo hi n f g l m = omega (arith, ints)
+
+not-below : (lo m : ℤ) → pos 0 ≤ℤ lo → lo ≤ℤ m → pos 0 ≤ℤ m
+not-below lo m l h = omega (arith, ints)
+
+-- the same of numbers that are not negative, whose text tells the magnitude
+pub positive-candidate : (r : ℕ) (f : ℤ → List ℕ) → ((k : ℕ) → value_after r 0 (f (pos k)) ≡ k) → (n : ℤ) (text : List ℕ) (value : ℕ) (o : Option ℤ) → FitsSigned w64 n → pos 0 ≤ℤ n → f n ≡ text → value ≡ min (value_after r 0 text) (2 ^ 64 - 1) → ((m : ℤ) → FitsSigned w64 m → pos 0 ≤ℤ m → magnitude m ≡ value → o ≡ Some m) → o ≡ Some n
+positive-candidate r f back (pos k) text value o fits low e v only =
+    let m : value_after r 0 text ≡ k = ap (value_after r 0) (sym e) ∙ back k in
+    only (pos k) fits low (capped k value (magnitude-fits (pos k) fits) (v ∙ ap (λ (x : ℕ). min x (2 ^ 64 - 1)) m))
+positive-candidate r f back (negsuc k) text value o fits low e v only = absurd (omega (arith, ints))
+
+-- a number that is not negative, and whose text is another, leaves no value with the text
+pub no-other : (lo hi : ℤ) (f : ℤ → List ℕ) (text : List ℕ) (r : Option ℤ) (n : ℤ) → FitsSigned w64 lo → FitsSigned w64 hi → pos 0 ≤ℤ lo → ((m : ℤ) → FitsSigned w64 m → pos 0 ≤ℤ m → f m ≡ text → r ≡ Some m) → r ≡ Some n → (f n ≡ text → ⊥) → (v : Value) → HoldsNumber lo hi v → num_text f v ≡ text → ⊥
+no-other lo hi f text r n fl fh low only is apart (Num m) h e =
+    let l : pos 0 ≤ℤ m = not-below lo m low h.0 in
+    let s : r ≡ Some m = only m (fits-between lo hi m fl fh h.0 h.1) l e in
+    let z : m ≡ n = unwrap m n (sym s ∙ is) in
+    apart (subst (λ (x : ℤ). f x ≡ text) z e)
+no-other lo hi f text r n fl fh low only is apart v h e = h
+
+-- a text written into an empty list, compared with another
+pub written-apart : (old new text plain other : List ℕ) (same : Bool) → old ≡ [] → new ≡ old ++ text → plain ≡ new → same ≡ pointwise eqb plain other → same ≡ false → text ≡ other → ⊥
+written-apart old new text plain other same o n p s f e =
+    let t : plain ≡ text = p ∙ n ∙ ap (λ (x : List ℕ). x ++ text) o in
+    let h = slice_eq-Decides Decides-eqb plain other same s in
+    let y : same ≡ true = h.1 (t ∙ e) in
+    cc

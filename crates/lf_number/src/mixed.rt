@@ -1,0 +1,60 @@
+//! Digits that are first free and then counted, as points of a machine.
+
+ghost use Rattle.std.specs.Prelude.{◌≡◌, ◌+◌, ◌*◌, ◌≤◌};
+ghost use Rattle.lf_number.specs.Machines.{mixed_digit, counted_done as counted_done_of};
+
+use crate::bounds::{Bounds, in_range};
+
+/// The free digits with their bounds, at most so many, the bounds of the counted ones, and the point
+/// after a first zero.
+#[derive(Clone, Copy)]
+pub struct MixedDigits {
+    pub most: u32,
+    pub free: Bounds,
+    pub counted: Bounds,
+    pub zero: u32,
+    ghost least: { 1 ≤ most },
+    ghost few: { most ≤ 255 },
+    ghost one_radix: { counted.radix ≡ free.radix },
+}
+
+impl MixedDigits {
+    /// The first point of the counted digits.
+    pub fn base(self) -> u32
+        ensures { result ≡ 9 * self.most + 2 }
+    {
+        9 * self.most + 2
+    }
+
+    /// The point after a digit.
+    pub fn after(self, at: u32, digit: u64) -> Option<u32>
+        requires { at ≤ 4596 }
+        ensures { result ≡ mixed_digit self.free.radix self.most self.free.lo self.free.hi
+            self.counted.lo self.counted.hi self.zero at digit }
+    {
+        if at == 0 {
+            if digit == 0 {
+                return Some(self.zero);
+            }
+            return Some(self.free.first(digit));
+        }
+        if at == 1 {
+            return None;
+        }
+        let base = self.base();
+        if at < base {
+            return self.free.next(self.most, at, digit);
+        }
+        self.counted.counted_next(base, at - base, digit)
+    }
+}
+
+/// Whether no digit is to come at this place of the counted digits, and the number is in the range.
+pub fn counted_done(lo: i64, hi: i64, at: u32) -> bool
+    ensures { result ≡ counted_done_of lo hi at }
+{
+    if at / 9 != 0 {
+        return false;
+    }
+    in_range(lo, hi, false, at % 9 / 3, at % 3)
+}
