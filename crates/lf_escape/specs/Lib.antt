@@ -1,0 +1,13 @@
+pub mod Codes
+pub mod Escapes
+pub mod Case
+pub mod Plain
+pub mod Apache
+pub mod Nginx
+pub mod HaProxy
+pub mod Prefixes
+pub mod ShapeLaws
+pub mod PlainLaws
+pub mod ApacheLaws
+pub mod NginxLaws
+pub mod HaProxyLaws

@@ -1,0 +1,44 @@
+ghost use Rattle.lf_escape.specs.Codes.{byte_takes};
+ghost use Rattle.lf_escape.specs.Apache.{apache_word};
+
+use crate::code::{Apart, Code};
+use crate::escapes::{Case, backslash_hex, backslashed};
+use crate::word::Word;
+
+/// The escapes of Apache's log.
+#[derive(Clone, Copy, Debug, PartialEq, Eq)]
+pub struct ApacheHex;
+
+impl Code for ApacheHex {
+    ghost use Rattle.lf_escape.specs.ApacheLaws.{apache_laws};
+
+    ghost can_take = { λ _. byte_takes };
+
+    ghost word = { λ _. apache_word };
+
+    ghost laws = { λ _. apache_laws };
+
+    fn takes(&self, _letter: u8) -> bool {
+        true
+    }
+
+    fn word_of(&self, letter: u8) -> Word {
+        match letter {
+            b'"' => backslashed(b'"'),
+            b'\\' => backslashed(b'\\'),
+            b'\x08' => backslashed(b'b'),
+            b'\n' => backslashed(b'n'),
+            b'\r' => backslashed(b'r'),
+            b'\t' => backslashed(b't'),
+            b'\x0B' => backslashed(b'v'),
+            b' '..=b'~' => Word::of_one(letter),
+            _ => backslash_hex(Case::Lower, letter),
+        }
+    }
+}
+
+impl Apart for ApacheHex {
+    ghost use Rattle.lf_escape.specs.ApacheLaws.{apache_apart};
+
+    ghost apart = { λ _. apache_apart };
+}

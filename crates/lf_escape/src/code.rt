@@ -1,0 +1,29 @@
+ghost use Rattle.std.specs.Prelude.{◌≡◌, ℕ, List, Bool, true};
+ghost use Rattle.lf_escape.specs.Codes.{IsCode, AreWordsApart};
+
+use crate::word::Word;
+
+/// A word of bytes for each letter that the code takes. Both calls take constant time and no memory.
+pub trait Code {
+    /// The code takes the letter.
+    ghost can_take: { Self → ℕ → Bool };
+
+    /// The word of a letter that is taken.
+    ghost word: { Self → ℕ → List ℕ };
+
+    fn takes(&self, letter: u8) -> bool
+        ensures { result ≡ can_take self.now letter };
+
+    fn word_of(&self, letter: u8) -> Word
+        requires { can_take self.now letter ≡ true }
+        ensures { result ≡ word self.now letter };
+
+    /// What each code keeps.
+    ghost laws: { (c : Self) → IsCode (can_take c) (word c) };
+}
+
+/// A code whose words tell their letters.
+pub trait Apart: Code {
+    /// Two letters with one word are one letter.
+    ghost apart: { (c : Self) → AreWordsApart (Self.can_take c) (Self.word c) };
+}

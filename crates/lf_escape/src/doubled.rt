@@ -1,0 +1,36 @@
+ghost use Rattle.lf_escape.specs.Codes.{line_takes};
+ghost use Rattle.lf_escape.specs.Plain.{doubled_word};
+
+use crate::code::{Apart, Code};
+use crate::word::Word;
+
+/// A double quote is doubled; the line feed is not taken.
+#[derive(Clone, Copy, Debug, PartialEq, Eq)]
+pub struct Doubled;
+
+impl Code for Doubled {
+    ghost use Rattle.lf_escape.specs.PlainLaws.{doubled_laws};
+
+    ghost can_take = { λ _. line_takes };
+
+    ghost word = { λ _. doubled_word };
+
+    ghost laws = { λ _. doubled_laws };
+
+    fn takes(&self, letter: u8) -> bool {
+        letter != b'\n'
+    }
+
+    fn word_of(&self, letter: u8) -> Word {
+        if letter == b'"' {
+            return Word::of_two(b'"', b'"');
+        }
+        Word::of_one(letter)
+    }
+}
+
+impl Apart for Doubled {
+    ghost use Rattle.lf_escape.specs.PlainLaws.{doubled_apart};
+
+    ghost apart = { λ _. doubled_apart };
+}

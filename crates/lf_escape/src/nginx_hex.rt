@@ -1,0 +1,37 @@
+ghost use Rattle.lf_escape.specs.Codes.{byte_takes};
+ghost use Rattle.lf_escape.specs.Nginx.{nginx_word};
+
+use crate::code::{Apart, Code};
+use crate::escapes::{Case, backslash_hex, is_printable};
+use crate::word::Word;
+
+/// The default escapes of nginx's log.
+#[derive(Clone, Copy, Debug, PartialEq, Eq)]
+pub struct NginxHex;
+
+impl Code for NginxHex {
+    ghost use Rattle.lf_escape.specs.NginxLaws.{nginx_laws};
+
+    ghost can_take = { λ _. byte_takes };
+
+    ghost word = { λ _. nginx_word };
+
+    ghost laws = { λ _. nginx_laws };
+
+    fn takes(&self, _letter: u8) -> bool {
+        true
+    }
+
+    fn word_of(&self, letter: u8) -> Word {
+        if letter == b'"' || letter == b'\\' || !is_printable(letter) {
+            return backslash_hex(Case::Upper, letter);
+        }
+        Word::of_one(letter)
+    }
+}
+
+impl Apart for NginxHex {
+    ghost use Rattle.lf_escape.specs.NginxLaws.{nginx_apart};
+
+    ghost apart = { λ _. nginx_apart };
+}

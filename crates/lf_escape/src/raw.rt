@@ -1,0 +1,33 @@
+ghost use Rattle.lf_escape.specs.Codes.{line_takes};
+ghost use Rattle.lf_escape.specs.Plain.{raw_word};
+
+use crate::code::{Apart, Code};
+use crate::word::Word;
+
+/// Each letter but the line feed stands for itself.
+#[derive(Clone, Copy, Debug, PartialEq, Eq)]
+pub struct Raw;
+
+impl Code for Raw {
+    ghost use Rattle.lf_escape.specs.PlainLaws.{raw_laws};
+
+    ghost can_take = { λ _. line_takes };
+
+    ghost word = { λ _. raw_word };
+
+    ghost laws = { λ _. raw_laws };
+
+    fn takes(&self, letter: u8) -> bool {
+        letter != b'\n'
+    }
+
+    fn word_of(&self, letter: u8) -> Word {
+        Word::of_one(letter)
+    }
+}
+
+impl Apart for Raw {
+    ghost use Rattle.lf_escape.specs.PlainLaws.{raw_apart};
+
+    ghost apart = { λ _. raw_apart };
+}
