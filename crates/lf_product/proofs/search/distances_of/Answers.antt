@@ -1,0 +1,40 @@
+use Rattle.std.proofs.Common.{◌≡◌, ℕ, arith, rules, ◌<◌, ◌≤◌, ◌+◌, ◌*◌, ◌∙◌, ap, length, subst, replicate, List, []}
+use Rattle.std.proofs.lemmas.List.{length-map, nil_from_length}
+use Rattle.lf_product.specs.declared.search.TheConstants.{NONE}
+use Rattle.lf_product.specs.declared.limits.TheConstants.{MOST_POINTS}
+use Rattle.lf_product.specs.declared.search.Pair.{Pair}
+use Rattle.lf_product.specs.Written.{table_machine}
+use Rattle.lf_product.specs.Level.{Reached, AllBefore, room}
+use Rattle.lf_product.proofs.Places.{steps_at-replicate}
+use Rattle.lf_product.proofs.Levels.{next_complete, exact, steps_fit}
+use Rattle.lf_product.proofs.search.distances_of.Goals as goal
+
+pub first_level-requires-clause-none : goal.first_level-requires-clause-none
+first_level-requires-clause-none c =
+    let n : c.len-points.result ≡ (table_machine c.args.table.now).count = search (rules, length-map) in
+    let is : c.in_ok-distances.distances.items ≡ replicate (2 * (c.len-points.result * c.len-points.result)) NONE = search rules in
+    rw is (λ a b d ha hb. steps_at-replicate ((table_machine c.args.table.now).count) (2 * (c.len-points.result * c.len-points.result)) NONE a b d (ap (λ (k : ℕ). 2 * (k * k)) n) ha hb)
+
+pub levels-preserved : goal.levels-preserved
+levels-preserved c =
+    let m = table_machine c.args.table.now in
+    let fit : c.levels.steps + 1 < NONE = steps_fit m.count c.levels.steps (room NONE c.levels.distances.items c.levels.level.items) MOST_POINTS NONE c.requires.few c.levels.invariant.few (omega arith) in
+    let some : 0 < length c.levels.level.items = search rules in
+    let same : room NONE c.next_level.new.distances.items c.in_ok-level-2.level.items ≡ room NONE c.levels.distances.items [] = c.in_ok-level-2.ensures.room in
+    let old : c.levels.steps + room NONE c.levels.distances.items c.levels.level.items ≤ 2 * (m.count * m.count) = c.levels.invariant.few in
+    record {
+      whole = c.in_ok-level-2.ensures.grows.same_length ∙ c.levels.invariant.whole;
+      reached = c.in_ok-level-2.ensures.reached;
+      complete = next_complete m NONE c.levels.steps c.levels.distances.items c.next_level.new.distances.items c.levels.level.items c.in_ok-level-2.level.items c.requires.lawful fit c.levels.invariant.reached c.levels.invariant.complete c.in_ok-level-2.ensures.reached c.in_ok-level-2.ensures.grows
+          (subst (λ (ps : List Pair). AllBefore m NONE c.next_level.new.distances.items ps) c.deref-in-levels.ensures.value c.in_ok-level-2.ensures.has);
+      few = omega (arith, same, old, some);
+    }
+
+pub returns-clause-exact : goal.returns-clause-exact
+returns-clause-exact c =
+    let m = table_machine c.args.table.now in
+    let empty : c.levels.level.items ≡ [] = nil_from_length c.levels.level.items (search rules) in
+    let fit : c.levels.steps + 1 < NONE = steps_fit m.count c.levels.steps (room NONE c.levels.distances.items c.levels.level.items) MOST_POINTS NONE c.requires.few c.levels.invariant.few (omega arith) in
+    exact m NONE c.levels.steps c.levels.distances.items c.requires.lawful (omega (arith, fit))
+    (subst (λ (ps : List Pair). Reached m m.count NONE c.levels.steps c.levels.distances.items ps) empty c.levels.invariant.reached)
+    c.levels.invariant.complete

@@ -1,0 +1,35 @@
+use Rattle.std.proofs.Common.{ℕ, arith, ◌+◌, [], get_or, inl, inr, subst, List, false}
+use Rattle.std.proofs.lemmas.List.Elements.{Contains-get_or}
+use Rattle.lf_product.specs.declared.search.Pair.{Pair}
+use Rattle.lf_product.specs.declared.search.TheConstants.{NONE}
+use Rattle.lf_product.specs.Written.{table_machine}
+use Rattle.lf_product.specs.Level.{AreBefore}
+use Rattle.lf_product.proofs.Sweep.{contains_take_more, contains_whole, before_grows, going_on}
+use Rattle.lf_product.proofs.search.next_level.Goals as goal
+
+abbrev no_pair : Pair
+no_pair = record { left = 0; right = 0; differed = false }
+
+pub reach_from-requires-clause-left : goal.reach_from-requires-clause-left
+reach_from-requires-clause-left c = c.requires.reached.waits_left (get_or c.args.level.now c.loop-pair.pair-index no_pair) (Contains-get_or c.args.level.now c.loop-pair.pair-index no_pair (omega arith))
+
+pub reach_from-requires-clause-right : goal.reach_from-requires-clause-right
+reach_from-requires-clause-right c = c.requires.reached.waits_right (get_or c.args.level.now c.loop-pair.pair-index no_pair) (Contains-get_or c.args.level.now c.loop-pair.pair-index no_pair (omega arith))
+
+pub reach_from-requires-clause-way : goal.reach_from-requires-clause-way
+reach_from-requires-clause-way c = (c.args.steps, omega arith, c.requires.reached.waits_at (get_or c.args.level.now c.loop-pair.pair-index no_pair) (Contains-get_or c.args.level.now c.loop-pair.pair-index no_pair (omega arith)))
+
+pub loop-pair-preserved : goal.loop-pair-preserved
+loop-pair-preserved c =
+    let m = table_machine c.args.table.now in
+    let es : List ℕ = c.reach_from.new.distances.items in
+    record {
+      going = going_on m NONE (c.args.steps + 1) c.args.distances.now.items c.loop-pair.distances.items es [] c.loop-pair.waiting.items c.reach_from.new.waiting.items c.loop-pair.invariant.going c.in_ok-reach_from.ensures.reached c.in_ok-reach_from.ensures.grows c.in_ok-reach_from.ensures.room;
+      done = λ p h. elim (contains_take_more c.args.level.now c.loop-pair.pair-index no_pair p (omega arith) h) [
+        | inl k ↦ before_grows m NONE c.loop-pair.distances.items es p c.in_ok-reach_from.ensures.grows (c.loop-pair.invariant.done p k)
+        | inr e ↦ subst (λ (q : Pair). AreBefore m NONE es q) e c.in_ok-reach_from.ensures.has
+      ];
+    }
+
+pub returns-clause-has : goal.returns-clause-has
+returns-clause-has c = λ p h. c.loop-pair.invariant.done p (contains_whole c.args.level.now c.loop-pair.pair-index p (omega (arith, c.loop-pair-test.false)) h)

@@ -1,0 +1,15 @@
+//! Distances of pairs of points, and whether two different whole runs stand on one byte list.
+#![tactic(auto)]
+
+mod arrivals;
+mod byte_set;
+mod limits;
+mod pairs;
+mod search;
+mod table;
+
+pub use limits::MOST_POINTS;
+pub use pairs::{Pairs, distances};
+
+#[cfg(test)]
+mod tests;

@@ -1,0 +1,75 @@
+//! The distances of a machine's flagged pairs.
+ghost use Rattle.std.specs.Prelude.{◌≡◌, ◌<◌, ◌≤◌, ◌↔◌, IfOk, IsTrue};
+ghost use Rattle.lf_core.specs.Written.{machine_of, written};
+ghost use Rattle.lf_product.specs.Distance.{IsAmbiguous, IsDistance};
+
+use crate::limits::MOST_POINTS;
+use crate::search::{NONE, Pair, distances_of, place};
+use crate::table::{Table, table_of};
+use lf_core::{Marked, OutOfMemory};
+use std::alloc::Global;
+use std::marker::Model;
+use std::snapshot::Snapshot;
+
+/// The distances of a machine's flagged pairs.
+#[derive(Drop)]
+pub struct Pairs {
+    start: u32,
+    points: usize,
+    distances: Vec<u32>,
+    table: Snapshot<Table>,
+}
+
+impl Model for Pairs {
+    ghost use Rattle.lf_core.specs.Written.{WrittenMachine};
+    ghost use Rattle.lf_product.specs.Written.{written_of};
+    ghost use Rattle.lf_product.specs.Kept.{AreKept};
+
+    ghost Value = { WrittenMachine };
+
+    ghost view = { λ p. written_of p.table.value };
+
+    ghost invariant = { AreKept };
+}
+
+/// The distances of a machine's flagged pairs.
+pub fn distances<M: Marked>(alloc: Global, m: &M) -> Result<Pairs, OutOfMemory>
+    requires { (M.machine m.now).count ≤ MOST_POINTS }
+    ensures { IfOk result (λ pairs. pairs ≡ written (M.machine m.now)) }
+{
+    let table = table_of(alloc, m)?;
+    let distances = distances_of(alloc, &table)?;
+    Ok(Pairs {
+        start: table.start,
+        points: table.rows.len(),
+        distances,
+        table: Snapshot::of(&table),
+    })
+}
+
+impl Pairs {
+    /// The least number of bytes on which both reach an end with a difference,
+    /// counting an earlier one where `differed` is true.
+    pub fn distance(&self, a: u32, b: u32, differed: bool) -> Option<u32>
+        requires left { a < (machine_of self.now).count }
+        requires right { b < (machine_of self.now).count }
+        ensures { IsDistance (machine_of self.now) a b differed result }
+    {
+        let steps = self.distances[place(
+            self.points,
+            Pair {
+                left: a,
+                right: b,
+                differed,
+            },
+        )];
+        if steps == NONE { None } else { Some(steps) }
+    }
+
+    /// Whether two different whole runs stand on one list of bytes, of any length.
+    pub fn ambiguous(&self) -> bool
+        ensures { IsTrue result ↔ IsAmbiguous (machine_of self.now) }
+    {
+        self.distance(self.start, self.start, false).is_some()
+    }
+}

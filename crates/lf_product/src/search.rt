@@ -1,0 +1,252 @@
+//! The search for distances: backward from pairs of ends, level by level.
+ghost use Rattle.std.specs.Prelude.{◌≡◌, ℕ, ◌+◌, ◌*◌, ◌<◌, ◌≤◌, [], Bool, OnOk, IfOk};
+ghost use Rattle.lf_core.specs.Marked.{IsMachine};
+ghost use Rattle.lf_product.specs.Distance.{Suffices};
+ghost use Rattle.lf_product.specs.Cells.{cell, steps_at, IsExact};
+ghost use Rattle.lf_product.specs.Written.{written_of, table_machine, IsFull};
+ghost use Rattle.lf_product.specs.Arcs.{lists_of};
+ghost use Rattle.lf_product.specs.Level.{Reached, Grows, Complete, AllBefore, room, IsWhole, Follows, LeadsTo, AreArrivals, IsCovered, AreBefore};
+
+use crate::arrivals::{Arrival, arrivals_of};
+use crate::limits::MOST_POINTS;
+use crate::table::Table;
+use lf_core::OutOfMemory;
+use std::alloc::Global;
+
+/// No distance yet.
+pub(crate) const NONE: u32 = u32::MAX;
+
+/// Two points, and whether the runs that led there differ.
+#[derive(Clone, Copy, Debug)]
+pub(crate) struct Pair {
+    pub(crate) left: u32,
+    pub(crate) right: u32,
+    pub(crate) differed: bool,
+}
+
+/// Where the distance of a flagged pair stands.
+pub(crate) fn place(points: usize, pair: Pair) -> usize
+    requires few { points ≤ MOST_POINTS }
+    requires left { pair.left < points }
+    requires right { pair.right < points }
+    ensures cell { result ≡ cell points pair.left pair.right pair.differed }
+    ensures below { result < 2 * (points * points) }
+{
+    2 * (pair.left as usize * points + pair.right as usize) + usize::from(pair.differed)
+}
+
+/// Gives the pair its distance, if it has none yet.
+fn reach(
+    table: &Table,
+    distances: &mut Vec<u32>,
+    waiting: &mut Vec<Pair>,
+    pair: Pair,
+    steps: u32,
+) -> Result<(), OutOfMemory>
+    requires few { (table_machine table.now).count ≤ MOST_POINTS }
+    requires left { pair.left < (table_machine table.now).count }
+    requires right { pair.right < (table_machine table.now).count }
+    requires small { steps < NONE }
+    requires whole { IsWhole (table_machine table.now) distances.old.items }
+    requires way { Suffices (table_machine table.now) steps pair.left pair.right pair.differed }
+    requires reached { Reached (table_machine table.now) ((table_machine table.now).count)
+        NONE steps distances.old.items waiting.old.items }
+    ensures reached { OnOk result
+        (Reached (table_machine table.now) ((table_machine table.now).count) NONE steps distances.new.items waiting.new.items) }
+    ensures grows { OnOk result (Grows ((table_machine table.now).count) NONE distances.old.items distances.new.items) }
+    ensures room { OnOk result
+        (room NONE distances.new.items waiting.new.items ≡ room NONE distances.old.items waiting.old.items) }
+    ensures has { OnOk result
+        (steps_at ((table_machine table.now).count) distances.new.items pair.left pair.right pair.differed < NONE) }
+{
+    let at = place(table.rows.len(), pair);
+    if distances[at] == NONE {
+        waiting.push(pair)?;
+        distances[at] = steps;
+    }
+    Ok(())
+}
+
+/// Reaches the pairs from which these two moves lead to the pair.
+fn reach_by(
+    table: &Table,
+    distances: &mut Vec<u32>,
+    waiting: &mut Vec<Pair>,
+    x: &Arrival,
+    y: &Arrival,
+    pair: Pair,
+    steps: u32,
+) -> Result<(), OutOfMemory>
+    requires few { (table_machine table.now).count ≤ MOST_POINTS }
+    requires left { x.now.from < (table_machine table.now).count }
+    requires right { y.now.from < (table_machine table.now).count }
+    requires left_leads { LeadsTo (table_machine table.now) x.now pair.left }
+    requires right_leads { LeadsTo (table_machine table.now) y.now pair.right }
+    requires small { steps < NONE }
+    requires whole { IsWhole (table_machine table.now) distances.old.items }
+    requires way { Follows (table_machine table.now) steps pair }
+    requires reached { Reached (table_machine table.now) ((table_machine table.now).count)
+        NONE steps distances.old.items waiting.old.items }
+    ensures reached { OnOk result
+        (Reached (table_machine table.now) ((table_machine table.now).count) NONE steps distances.new.items waiting.new.items) }
+    ensures grows { OnOk result (Grows ((table_machine table.now).count) NONE distances.old.items distances.new.items) }
+    ensures room { OnOk result
+        (room NONE distances.new.items waiting.new.items ≡ room NONE distances.old.items waiting.old.items) }
+    ensures has { OnOk result (IsCovered ((table_machine table.now).count) NONE distances.new.items x.now y.now pair) }
+{
+    if x.bytes.meets(&y.bytes) {
+        let same = pair.left == pair.right && x.mark == y.mark;
+        if pair.differed {
+            reach(
+                table,
+                distances,
+                waiting,
+                Pair {
+                    left: x.from,
+                    right: y.from,
+                    differed: true,
+                },
+                steps,
+            )?;
+        }
+        if pair.differed != same {
+            reach(
+                table,
+                distances,
+                waiting,
+                Pair {
+                    left: x.from,
+                    right: y.from,
+                    differed: false,
+                },
+                steps,
+            )?;
+        }
+    }
+    Ok(())
+}
+
+/// Reaches each pair from which a step leads to the pair.
+fn reach_from(
+    table: &Table,
+    distances: &mut Vec<u32>,
+    waiting: &mut Vec<Pair>,
+    arrivals: &[Vec<Arrival>],
+    pair: Pair,
+    steps: u32,
+) -> Result<(), OutOfMemory>
+    requires few { (table_machine table.now).count ≤ MOST_POINTS }
+    requires arrivals { AreArrivals (table_machine table.now) (lists_of arrivals.now) }
+    requires left { pair.left < (table_machine table.now).count }
+    requires right { pair.right < (table_machine table.now).count }
+    requires small { steps < NONE }
+    requires whole { IsWhole (table_machine table.now) distances.old.items }
+    requires way { Follows (table_machine table.now) steps pair }
+    requires reached { Reached (table_machine table.now) ((table_machine table.now).count)
+        NONE steps distances.old.items waiting.old.items }
+    ensures reached { OnOk result
+        (Reached (table_machine table.now) ((table_machine table.now).count) NONE steps distances.new.items waiting.new.items) }
+    ensures grows { OnOk result (Grows ((table_machine table.now).count) NONE distances.old.items distances.new.items) }
+    ensures room { OnOk result
+        (room NONE distances.new.items waiting.new.items ≡ room NONE distances.old.items waiting.old.items) }
+    ensures has { OnOk result (AreBefore (table_machine table.now) NONE distances.new.items pair) }
+{
+    for x in &arrivals[pair.left as usize] {
+        for y in &arrivals[pair.right as usize] {
+            reach_by(table, distances, waiting, x, y, pair, steps)?;
+        }
+    }
+    Ok(())
+}
+
+/// One level of the search.
+fn next_level(
+    alloc: Global,
+    table: &Table,
+    distances: &mut Vec<u32>,
+    arrivals: &[Vec<Arrival>],
+    level: &[Pair],
+    steps: u32,
+) -> Result<Vec<Pair>, OutOfMemory>
+    requires few { (table_machine table.now).count ≤ MOST_POINTS }
+    requires arrivals { AreArrivals (table_machine table.now) (lists_of arrivals.now) }
+    requires small { steps + 1 < NONE }
+    requires whole { IsWhole (table_machine table.now) distances.old.items }
+    requires reached { Reached (table_machine table.now) ((table_machine table.now).count)
+        NONE steps distances.old.items level.now }
+    ensures reached { IfOk result
+        (λ next. Reached (table_machine table.now) ((table_machine table.now).count) NONE (steps + 1) distances.new.items next.items) }
+    ensures grows { OnOk result (Grows ((table_machine table.now).count) NONE distances.old.items distances.new.items) }
+    ensures room { IfOk result (λ next. room NONE distances.new.items next.items ≡ room NONE distances.old.items []) }
+    ensures has { OnOk result (AllBefore (table_machine table.now) NONE distances.new.items level.now) }
+{
+    let mut waiting = Vec::new(alloc);
+    for pair in level {
+        reach_from(table, distances, &mut waiting, arrivals, *pair, steps + 1)?;
+    }
+    Ok(waiting)
+}
+
+/// The pairs of two ends.
+fn first_level(
+    alloc: Global,
+    table: &Table,
+    distances: &mut Vec<u32>,
+) -> Result<Vec<Pair>, OutOfMemory>
+    requires lawful { IsMachine (table_machine table.now) }
+    requires full { IsFull (written_of table.now) }
+    requires few { (table_machine table.now).count ≤ MOST_POINTS }
+    requires whole { IsWhole (table_machine table.now) distances.old.items }
+    requires none { (a b : ℕ) (d : Bool) → a < (table_machine table.now).count → b < (table_machine table.now).count →
+        steps_at ((table_machine table.now).count) distances.old.items a b d ≡ NONE }
+    ensures whole { OnOk result (IsWhole (table_machine table.now) distances.new.items) }
+    ensures reached { IfOk result
+        (λ next. Reached (table_machine table.now) ((table_machine table.now).count) NONE 0 distances.new.items next.items) }
+    ensures room { IfOk result (λ next. room NONE distances.new.items next.items ≡ room NONE distances.old.items []) }
+    ensures has { OnOk result
+        (Complete (table_machine table.now) ((table_machine table.now).count) 0 distances.new.items) }
+{
+    let mut waiting = Vec::new(alloc);
+    let ends = &table.ends;
+    for left in 0..ends.len() {
+        if ends[left] {
+            for right in 0..ends.len() {
+                if ends[right] {
+                    reach(
+                        table,
+                        distances,
+                        &mut waiting,
+                        Pair {
+                            left: left as u32,
+                            right: right as u32,
+                            differed: true,
+                        },
+                        0,
+                    )?;
+                }
+            }
+        }
+    }
+    Ok(waiting)
+}
+
+/// The distances of a machine that is written out.
+pub(crate) fn distances_of(alloc: Global, table: &Table) -> Result<Vec<u32>, OutOfMemory>
+    requires lawful { IsMachine (table_machine table.now) }
+    requires full { IsFull (written_of table.now) }
+    requires few { (table_machine table.now).count ≤ MOST_POINTS }
+    ensures exact { IfOk result
+        (λ ds. IsExact (table_machine table.now) ((table_machine table.now).count) NONE ds.items) }
+    ensures whole { IfOk result (λ ds. IsWhole (table_machine table.now) ds.items) }
+{
+    let points = table.rows.len();
+    let arrivals = arrivals_of(alloc, table)?;
+    let mut distances = vec![in alloc; NONE; 2 * (points * points)]?;
+    let mut level = first_level(alloc, table, &mut distances)?;
+    let mut steps = 0;
+    'levels: while !level.is_empty() {
+        level = next_level(alloc, table, &mut distances, &arrivals, &level, steps)?;
+        steps += 1;
+    }
+    Ok(distances)
+}

@@ -1,0 +1,5 @@
+pub mod Shares
+pub mod LineSteps
+pub mod Lists
+pub mod SameLines
+pub mod Beginnings

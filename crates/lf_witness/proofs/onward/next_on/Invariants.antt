@@ -1,0 +1,12 @@
+use Rattle.std.proofs.Common.{take}
+use Rattle.std.specs.List.{Contains}
+use Rattle.lf_core.specs.Written.{machine_of}
+use Rattle.lf_witness.specs.declared.onward.Flagged.{Flagged}
+use Rattle.lf_witness.specs.Shared.{IsNext, IsNextOf}
+use Rattle.lf_witness.proofs.onward.next_on.Given as goal
+
+abbrev pub invariant-loop-pair : goal.invariant-loop-pair
+invariant-loop-pair g l = record {
+  from : (p : Flagged) → Contains l.next.items p → IsNextOf (machine_of l.pairs) l.steps l.level l.byte p;
+  all : (q p : Flagged) → Contains (take l.pair-index l.level) q → IsNext (machine_of l.pairs) l.steps ((machine_of l.pairs).moves q.left l.byte) ((machine_of l.pairs).moves q.right l.byte) q.differed p → Contains l.next.items p;
+}
