@@ -1,0 +1,49 @@
+-- What the calls that write the report do.
+use Rattle.std.specs.Prelude.{◌≡◌, ℕ, ◌≤◌, ◌⊎◌, List, [], length, Option, Result, MatchResult}
+use Rattle.lf_format.specs.Shape.{Shape}
+use Rattle.lf_io.specs.Faults.{Rose}
+use Rattle.lf_io.specs.Moves.{Takes}
+use Rattle.lf_io.specs.declared.sink.Put.{Put}
+use Rattle.lf_io.specs.declared.sink.Put.TheVariants as put
+use Rattle.lf_app.specs.declared.verdict.Verdict.{Verdict}
+use Rattle.lf_app.specs.declared.kept.Kept.{Kept}
+use Rattle.lf_app.specs.declared.report.Report.{Report}
+use Rattle.lf_app.specs.declared.status.Status.{Status}
+use Rattle.lf_app.specs.declared.limits.TheConstants.{MOST_BYTES}
+use Rattle.lf_app.specs.Verdicts.{out_text, err_text, any_listed}
+use Rattle.lf_app.specs.Progress.{HasRead}
+use Rattle.lf_app.specs.Commands.{Read}
+use Rattle.lf_app.specs.Run.{Front}
+use Rattle.lf_app.specs.Promise.{Runs}
+
+-- Both texts were appended and the report is empty, or fronts of them were appended.
+abbrev pub Flushes : Report → Report → (List ℕ → Type 0) → (List ℕ → Type 0) → Put → Type 0
+Flushes old new out err put.Done = out old.out × err old.err × (new ≡ record old { out = []; err = [] })
+Flushes old new out err put.Failed = Front old.out out × Front old.err err
+
+-- Two sinks' counts never fall, and a failure is answered only where one rose.
+pub record HasCauses (out_before out_now err_before err_now : ℕ) (failed : Type 0) : Type 0 where
+  pub out_later : out_before ≤ out_now
+  pub err_later : err_before ≤ err_now
+  pub cause : failed → Rose out_before out_now ⊎ Rose err_before err_now
+
+-- The reader has taken bytes, and all that it found of their whole lines is written.
+pub record Follows (format : Shape) (kept : Kept) (report : Report) (total : ℕ) (left later : Option (List ℕ)) (wrote_out wrote_err : List ℕ → Type 0) : Type 0 where
+  pub taken : List ℕ
+  pub found : List Verdict
+  pub read : HasRead format kept taken found
+  pub takes : Takes left later taken
+  pub is_total : total ≡ length taken
+  pub most : total ≤ MOST_BYTES
+  pub count : report.count ≡ length found
+  pub lines : report.count ≤ total
+  pub listed : report.is_partial ≡ any_listed found
+  pub no_out : report.out ≡ []
+  pub no_err : report.err ≡ []
+  pub out : wrote_out (out_text found)
+  pub err : wrote_err (err_text 1 found)
+
+-- The reader goes on, or the run ends with this status.
+abbrev pub GoesOn : Result (Unit {0}) Status → Shape → Kept → Report → ℕ → Option (List ℕ) → Option (List ℕ) → (List ℕ → Type 0) → (List ℕ → Type 0) → Type 0
+GoesOn result format kept report total left later out err =
+    MatchResult result (λ _. Follows format kept report total left later out err) (λ status. Runs (Read format) status.0 left later out err)

@@ -1,0 +1,12 @@
+pub mod Run
+pub mod Commands
+pub mod Outcome
+pub mod Spelling
+pub mod BoundLaws
+pub mod Lines
+pub mod Verdicts
+pub mod Json
+pub mod Reading
+pub mod Progress
+pub mod Flush
+pub mod Promise

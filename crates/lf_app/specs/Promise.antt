@@ -1,0 +1,34 @@
+-- All that a run does, in one record: each clause of `run` is a part of it.
+use Rattle.std.specs.Prelude.{◌≡◌, ℕ, ◌≤◌, List, length, Option, ◌⊎◌}
+use Rattle.lf_io.specs.Faults.{Rose}
+use Rattle.lf_io.specs.Moves.{Takes}
+use Rattle.lf_app.specs.declared.limits.TheConstants.{MOST_BYTES}
+use Rattle.lf_app.specs.Commands.{Command, TakesInput}
+use Rattle.lf_app.specs.Run.{IsSettled, IsCut, WritesWholeLines, WritesFronts, Front}
+
+-- How many bytes were taken: no more than MOST_BYTES, and so many only at the statuses 5, 6 and 8.
+pub record KeepsLimit (command : Command) (status : ℕ) (left later : Option (List ℕ)) (out err : List ℕ → Type 0) : Type 0 where
+  pub taken : List ℕ
+  pub takes : Takes left later taken
+  pub most : length taken ≤ MOST_BYTES
+  pub full : length taken ≡ MOST_BYTES → (status ≡ 5) ⊎ (status ≡ 6) ⊎ (status ≡ 8)
+  pub endless : status ≡ 8 → length taken ≡ MOST_BYTES
+  pub whole_lines : IsCut status → WritesWholeLines command taken out err
+
+-- What a run of a command takes and writes.
+pub record Runs (command : Command) (status : ℕ) (left later : Option (List ℕ)) (out err : List ℕ → Type 0) : Type 0 where
+  pub settled : IsSettled command status left later out err
+  pub reads : IsCut status → TakesInput command
+  pub fronts : (status ≡ 5) ⊎ (status ≡ 6) → WritesFronts command left out err
+  pub limit : KeepsLimit command status left later out err
+
+-- The statuses that tell a fault come only where a count of faults rose, and no other status than 0 to 8 comes.
+pub record Tells (status : ℕ) (source_before source_now out_before out_now err_before err_now : ℕ) : Type 0 where
+  pub source : status ≡ 4 → Rose source_before source_now
+  pub sink : status ≡ 5 → Rose out_before out_now ⊎ Rose err_before err_now
+  pub known : status ≤ 8
+
+-- At status 2 the text was written, and else a front of it.
+pub record Refuses (status : ℕ) (text : List ℕ) (err : List ℕ → Type 0) : Type 0 where
+  pub whole : status ≡ 2 → err text
+  pub part : Front text err

@@ -1,0 +1,12 @@
+/// What a job passes before its first line.
+pub trait Gate {
+    fn pass(&self, job: u32);
+}
+
+/// A gate that does nothing.
+#[derive(Clone, Copy, Debug)]
+pub struct IdleGate;
+
+impl Gate for IdleGate {
+    fn pass(&self, _job: u32) {}
+}

@@ -1,0 +1,160 @@
+ghost use Rattle.std.specs.Prelude.{◌≡◌, ◌+◌, ◌<◌, ◌≤◌, ◌⊎◌, ℕ, List, Option, length, IfErr, IsErrAnd};
+ghost use Rattle.lf_io.specs.Faults.{HasCause, Rose};
+ghost use Rattle.lf_io.specs.Moves.{Gets, Takes, IsAtEnd};
+ghost use Rattle.lf_io.specs.Steps.{Pulls};
+ghost use Rattle.lf_app.specs.Commands.{Read as ReadCommand};
+ghost use Rattle.lf_app.specs.Progress.{IsLineFormat};
+ghost use Rattle.lf_app.specs.Promise.{Runs, Tells};
+ghost use Rattle.lf_app.specs.Flush.{HasCauses, Follows, GoesOn};
+
+use crate::flush::flush;
+use crate::kept::Kept;
+use crate::limits::MOST_BYTES;
+use crate::reading::{feed, finish};
+use crate::report::Report;
+use crate::status::Status;
+use lf_format::Format;
+use lf_io::{Pulled, Put, Sink, Source};
+use std::alloc::Global;
+
+/// The next bytes of the stream are read, and what is found of their lines is written.
+fn pass_piece<O: Sink, E: Sink>(
+    alloc: Global,
+    format: &Format,
+    kept: &mut Kept,
+    report: &mut Report,
+    total: u64,
+    piece: &[u8],
+    out: &mut O,
+    err: &mut E,
+) -> Result<(), Status>
+    requires format { IsLineFormat format.now }
+    requires room { total + length piece.now ≤ MOST_BYTES }
+    requires lines { report.old.count ≤ total }
+    ensures goes_on { (left later now : Option (List ℕ)) (out_got err_got : Option (List ℕ))
+        → Follows format.now kept.old report.old total left later (Gets out_got (O.got out.old)) (Gets err_got (E.got err.old))
+        → Takes later now piece.now
+        → GoesOn result format.now kept.new report.new (total + length piece.now) left now (Gets out_got (O.got out.new)) (Gets err_got (E.got err.new)) }
+    ensures faults { HasCauses (O.faults out.old) (O.faults out.new) (E.faults err.old) (E.faults err.new) (IsErrAnd result (λ s. s.0 ≡ 5)) }
+    ensures known { IfErr result (λ s. s.0 ≡ 5 ⊎ s.0 ≡ 6) }
+{
+    let Ok(()) = feed(alloc, format, kept, report, piece) else {
+        return Err(Status(6));
+    };
+    match flush(report, out, err) {
+        Put::Failed => Err(Status(5)),
+        Put::Done => Ok(()),
+    }
+}
+
+/// The stream has ended: the last line is read and written.
+fn close<O: Sink, E: Sink>(
+    alloc: Global,
+    format: &Format,
+    kept: &mut Kept,
+    report: &mut Report,
+    out: &mut O,
+    err: &mut E,
+) -> Status
+    requires format { IsLineFormat format.now }
+    requires lines { report.old.count < MOST_BYTES }
+    ensures runs { (total : ℕ) (left later : Option (List ℕ)) (out_got err_got : Option (List ℕ))
+        → Follows format.now kept.old report.old total left later (Gets out_got (O.got out.old)) (Gets err_got (E.got err.old))
+        → total < MOST_BYTES → IsAtEnd later
+        → Runs (ReadCommand format.now) result.0 left later (Gets out_got (O.got out.new)) (Gets err_got (E.got err.new)) }
+    ensures faults { HasCauses (O.faults out.old) (O.faults out.new) (E.faults err.old) (E.faults err.new) (result.0 ≡ 5) }
+    ensures known { result.0 ≤ 3 ⊎ result.0 ≡ 5 ⊎ result.0 ≡ 6 }
+{
+    let Ok(()) = finish(alloc, format, kept, report) else {
+        return Status(6);
+    };
+    match flush(report, out, err) {
+        Put::Failed => Status(5),
+        Put::Done => {
+            if report.is_partial {
+                Status(3)
+            } else {
+                Status(0)
+            }
+        }
+    }
+}
+
+/// Pulls at most `most` bytes.
+fn pull_most<S: Source>(input: &mut S, buffer: &mut [u8], most: u64) -> Pulled
+    requires some { 0 < most }
+    requires room { 0 < length buffer.old }
+    ensures bytes { Pulls (S.left input.old) (S.left input.new) buffer.new result }
+    ensures most { (n : ℕ) → result ≡ Pulled.Took n → n ≤ most }
+    ensures faults { HasCause (S.faults input.old) (S.faults input.new) (result ≡ Pulled.Failed) }
+{
+    if buffer.len() as u64 <= most {
+        return input.pull(buffer);
+    }
+    input.pull(&mut buffer[..most as usize])
+}
+
+/// Reads the source to its end, through a buffer.
+fn read_through<S: Source, O: Sink, E: Sink>(
+    alloc: Global,
+    format: &Format,
+    buffer: &mut [u8],
+    input: &mut S,
+    out: &mut O,
+    err: &mut E,
+) -> Status
+    requires format { IsLineFormat format.now }
+    requires room { 0 < length buffer.old }
+    ensures runs { Runs (ReadCommand format.now) result.0 (S.left input.old) (S.left input.new) (Gets (O.got out.old) (O.got out.new)) (Gets (E.got err.old) (E.got err.new)) }
+    ensures tells { Tells result.0 (S.faults input.old) (S.faults input.new) (O.faults out.old) (O.faults out.new) (E.faults err.old) (E.faults err.new) }
+{
+    let mut kept = Kept::new(alloc);
+    let mut report = Report::new(alloc);
+    let mut total: u64 = 0;
+    loop {
+        if total == MOST_BYTES {
+            return Status(8);
+        }
+        match pull_most(input, buffer, MOST_BYTES - total) {
+            Pulled::Took(count) => {
+                let piece = buffer.split_at(count).0;
+                match pass_piece(
+                    alloc,
+                    format,
+                    &mut kept,
+                    &mut report,
+                    total,
+                    piece,
+                    out,
+                    err,
+                ) {
+                    Ok(()) => total += count as u64,
+                    Err(status) => return status,
+                }
+            }
+            Pulled::End => return close(alloc, format, &mut kept, &mut report, out, err),
+            Pulled::Failed => return Status(4),
+        }
+    }
+}
+
+/// How many bytes are pulled at a time.
+const BUFFER: usize = 262_144;
+
+/// Reads the source to its end.
+pub fn read_lines<S: Source, O: Sink, E: Sink>(
+    alloc: Global,
+    format: &Format,
+    input: &mut S,
+    out: &mut O,
+    err: &mut E,
+) -> Status
+    requires { IsLineFormat format.now }
+    ensures runs { Runs (ReadCommand format.now) result.0 (S.left input.old) (S.left input.new) (Gets (O.got out.old) (O.got out.new)) (Gets (E.got err.old) (E.got err.new)) }
+    ensures tells { Tells result.0 (S.faults input.old) (S.faults input.new) (O.faults out.old) (O.faults out.new) (E.faults err.old) (E.faults err.new) }
+{
+    match vec![in alloc; 0u8; BUFFER] {
+        Ok(mut buffer) => read_through(alloc, format, buffer.as_mut_slice(), input, out, err),
+        Err(_) => Status(6),
+    }
+}

@@ -1,0 +1,59 @@
+ghost use Rattle.std.specs.Prelude.{◌≡◌, ◌≤◌};
+ghost use Rattle.lf_io.specs.Faults.{Rose};
+ghost use Rattle.lf_io.specs.Moves.{Gets};
+ghost use Rattle.lf_app.specs.Commands.{Command, IsCommand, TakesInput};
+ghost use Rattle.lf_app.specs.Run.{IsSettled, IsCutStream, IsSinkFault, IsNoMemory, IsComplete};
+
+use crate::commands::read_command;
+use crate::gate::Gate;
+use crate::passes::read_lines;
+use crate::refusals::refuse;
+use crate::status::Status;
+use lf_core::{OutOfMemory, Str};
+use lf_io::{Sink, Source};
+use std::alloc::Global;
+use std::thread::Threads;
+
+/// Runs a command line.
+pub fn run<R: Threads + Sync, S: Source, O: Sink, E: Sink, G: Gate + Sync>(
+    _rt: &R,
+    alloc: Global,
+    words: &[Str],
+    input: &mut S,
+    out: &mut O,
+    err: &mut E,
+    _gate: &G,
+) -> Status
+    // At a final status, status and texts are the command's outcome on the input, and the input is at its end.
+    ensures settled { (c : Command) → IsCommand words.now c
+        → IsSettled c result.0 (S.left input.old) (S.left input.new) (Gets (O.got out.old) (O.got out.new)) (Gets (E.got err.old) (E.got err.new)) }
+
+    // A command that takes no input leaves it as it was.
+    ensures untouched { (c : Command) → IsCommand words.now c → (TakesInput c → ⊥) → input.new ≡ input.old }
+
+    // A stream is cut only by a fault of the source or at its greatest length, and then its whole lines are written.
+    ensures cut_stream { (c : Command) → IsCommand words.now c
+        → IsCutStream c result.0 (S.left input.old) (S.left input.new) (S.faults input.old) (S.faults input.new) (Gets (O.got out.old) (O.got out.new)) (Gets (E.got err.old) (E.got err.new)) }
+
+    // A sink's fault is told only where one came, and fronts of the outcome's texts are written.
+    ensures sink_fault { (c : Command) → IsCommand words.now c
+        → IsSinkFault c result.0 (S.left input.old) (O.faults out.old) (O.faults out.new) (E.faults err.old) (E.faults err.new) (Gets (O.got out.old) (O.got out.new)) (Gets (E.got err.old) (E.got err.new)) }
+
+    // For want of memory fronts of the outcome's texts are written.
+    ensures no_memory { (c : Command) → IsCommand words.now c
+        → IsNoMemory c result.0 (S.left input.old) (Gets (O.got out.old) (O.got out.new)) (Gets (E.got err.old) (E.got err.new)) }
+
+    // Where no fault came, the status is the outcome's, unless memory runs out.
+    ensures complete { (Rose (S.faults input.old) (S.faults input.new) → ⊥) → (Rose (O.faults out.old) (O.faults out.new) → ⊥) → (Rose (E.faults err.old) (E.faults err.new) → ⊥)
+        → (c : Command) → IsCommand words.now c → IsComplete c result.0 (S.left input.old) }
+
+    // No other status comes.
+    ensures status { result.0 ≤ 8 }
+{
+    lf_format::laws::separated_is_readable();
+    match read_command(alloc, words) {
+        Ok(Some(format)) => read_lines(alloc, &format, input, out, err),
+        Ok(None) => refuse(err),
+        Err(OutOfMemory) => Status(6),
+    }
+}
