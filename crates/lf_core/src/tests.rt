@@ -21,23 +21,66 @@ fn has_just<F: Fn(u8) -> bool>(class: Class, is_wanted: F) -> bool
     rank == class.count() && class.is_empty() == (rank == 0)
 }
 
+/// The set of the bytes of a text and of those from 0x80 on, or without these.
+fn class_of(letters: &[u8], has_upper: bool) -> Class {
+    let mut class = if has_upper {
+        Class::of(0x80, 0xff)
+    } else {
+        Class::of(1, 0)
+    };
+    for b in letters {
+        class = class.with(*b);
+    }
+    class
+}
+
 #[test]
-fn classes_have_their_bytes(rt: HostRuntime) -> Result<(), Fail> {
+fn classes_of_ranges_have_their_bytes(rt: HostRuntime) -> Result<(), Fail> {
     let visible = Class::of(0x21, 0x7e);
     assert!(rt; has_just(visible, |b| b'!' <= b && b <= b'~'));
-    assert!(rt;
-        has_just(
-            visible.without(b'+'),
-            |b| b'!' <= b && b <= b'~' && b != b'+'
-        )
-    );
+    assert!(rt; has_just(Class::of(0, 255), |_b| true));
+    assert!(rt; has_just(Class::of(0, 255).without(b' '), |b| b != 0x20));
     assert!(rt;
         has_just(
             Class::of(b'0', b'9').with(b'.'),
             |b| b.is_ascii_digit() || b == b'.'
         )
     );
-    assert!(rt; has_just(Class::of(0, 255).without(b' '), |b| b != 0x20));
+    Ok(())
+}
+
+#[test]
+fn classes_of_lists_have_their_bytes(rt: HostRuntime) -> Result<(), Fail> {
+    let printed =
+        b" !\"#$%&'()*+,-./0123456789:;<=>?@ABCDEFGHIJKLMNOPQRSTUVWXYZ[\\]^_`abcdefghijklmnopqrstuvwxyz{|}~";
+    let spaced = class_of(printed, true);
+    assert!(rt; has_just(spaced, |b| 0x20 <= b && b != 0x7f));
+    assert!(rt; has_just(spaced.with(9), |b| b == 9 || (0x20 <= b && b != 0x7f)));
+    assert!(rt; has_just(spaced.without(b' '), |b| 0x20 < b && b != 0x7f));
+    assert!(rt;
+        has_just(
+            spaced.without(b' ').without(b'+'),
+            |b| 0x20 < b && b != 0x7f && b != b'+'
+        )
+    );
+    Ok(())
+}
+
+#[test]
+fn classes_of_signs_have_their_bytes(rt: HostRuntime) -> Result<(), Fail> {
+    let letters = b"ABCDEFGHIJKLMNOPQRSTUVWXYZabcdefghijklmnopqrstuvwxyz0123456789-_.:~<>";
+    assert!(rt;
+        has_just(
+            class_of(letters, false),
+            |b| b.is_ascii_alphanumeric() || b"-_.:~<>".contains(&b)
+        )
+    );
+    assert!(rt;
+        has_just(
+            class_of(b"0123456789+", false),
+            |b| b.is_ascii_digit() || b == b'+'
+        )
+    );
     Ok(())
 }
 

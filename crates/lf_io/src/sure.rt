@@ -64,7 +64,10 @@ impl Source for SureSource {
 pub struct SureSink;
 
 impl SureSink {
-    pub fn new() -> SureSink {
+    pub fn new() -> SureSink
+        ensures got { ⟦<SureSink as Sink>⟧.got result ≡ None }
+        ensures faults { ⟦<SureSink as Sink>⟧.faults result ≡ 0 }
+    {
         SureSink
     }
 }
