@@ -1,198 +1,166 @@
--- Each text spells a format or none, and each line has a verdict.
-use Rattle.std.proofs.Common.{◌≡◌, ℕ, ◌-◌, ◌^◌, true, false, ◌==◌, ltb, cond, List, [], ◌∷◌, length, refl, ◌∙◌, ap, arith, subst, ◌⊎◌, inl, inr}
-use Rattle.std.specs.Prelude.{Option, Some, None, codes}
-use Rattle.std.specs.List.{list_all, count_by}
-use Rattle.std.specs.Int.{bit_at}
+-- Any words are a command, and each line has a verdict.
+use Rattle.std.proofs.Common.{◌≡◌, ℕ, Bool, true, ◌&&◌, cond, List, [], ◌∷◌, length, refl, sym, ◌∙◌, ap, arith, subst, ◌⊎◌, inl, inr}
+use Rattle.std.specs.Prelude.{Result, Ok, Err}
+use Rattle.std.specs.List.{list_all}
 use Rattle.std.proofs.lemmas.Bool.{cases_Bool, cases_lt, and_parts}
-use Rattle.std.proofs.lemmas.Bool.Decides.{nat_tests}
-use Rattle.std.proofs.lemmas.Nat.Bits.{bit_at-zero, bit_at_mask_above, bit_at_mask_below}
-use Rattle.lf_core.specs.Class.{is_member, is_letter}
 use Rattle.lf_core.specs.declared.values.Value.{Value}
+use Rattle.lf_format.specs.Keeps.{slots_in}
 use Rattle.lf_format.specs.Shape.{Shape}
-use Rattle.lf_format.specs.Lines.{Prints, PrintsNone, IsReadable}
-use Rattle.lf_format.specs.Separated.{is_visible, in_byte_set, IsPlainSlot, IsApart, IsSeparated}
+use Rattle.lf_format.specs.Lines.{Prints, PrintsNone}
+use Rattle.lf_format.specs.Separated.{IsSeparated}
 use Rattle.lf_format.specs.declared.format.Piece.{Piece}
-use Rattle.lf_format.specs.declared.format.Piece.TheVariants as piece
-use Rattle.lf_format.specs.declared.format.LineEnd.TheVariants as line_end
-use Rattle.lf_format.specs.declared.kind.Kind.{Kind}
-use Rattle.lf_app.specs.declared.items.Directive.{Directive}
-use Rattle.lf_app.specs.declared.items.Directive.TheVariants.{Host, Status, Size}
-use Rattle.lf_app.specs.declared.items.Item.{Item}
-use Rattle.lf_app.specs.declared.items.Item.TheVariants.{Byte, Slot}
+use Rattle.lf_format.proofs.Deciding.{Decided, separated_decided}
+use Rattle.lf_json.specs.Reading.{ReadsJson}
+use Rattle.lf_json.specs.declared.bad_record.BadRecord.{BadRecord}
+use Rattle.lf_words.specs.Command.{IsCommand as IsLine}
+use Rattle.lf_words.specs.declared.command.Command.{Command as CommandLine}
+use Rattle.lf_words.specs.declared.command.Verb.{Verb}
+use Rattle.lf_words.specs.declared.command.Verb.TheVariants as verb
+use Rattle.lf_words.proofs.CommandLaws.{one_command_or_bad}
+use Rattle.apache_front.specs.Apache.{Spells}
+use Rattle.lf_app.specs.declared.commands.Command.{Command}
+use Rattle.lf_app.specs.declared.commands.Command.TheVariants.{Lines, Show, Refuse}
+use Rattle.lf_app.specs.declared.commands.Job.{Job}
+use Rattle.lf_app.specs.declared.commands.Refusal.TheVariants.{BadWords, BadFormat, NotBuilt}
+use Rattle.lf_app.specs.declared.commands.Work.{Work}
+use Rattle.lf_app.specs.declared.commands.Work.TheVariants as work
 use Rattle.lf_app.specs.declared.limits.TheConstants.{LINE, PATH_BYTES, PATH_SLOTS}
+use Rattle.lf_app.specs.declared.verdict.Finding.{Finding}
+use Rattle.lf_app.specs.declared.verdict.Finding.TheVariants as finding
 use Rattle.lf_app.specs.declared.verdict.Verdict.{Verdict}
 use Rattle.lf_app.specs.declared.verdict.Verdict.TheVariants as verdict
-use Rattle.lf_app.specs.Spelling.{visible, directive_slot, with_byte, pieces_of, is_slot, is_plain, HasForm, Spells}
-use Rattle.lf_app.specs.Reading.{items_from}
-use Rattle.lf_app.specs.Commands.{Command, Read, NotBuilt, SpellsRead, IsCommand, IsOneCommand}
-use Rattle.lf_app.specs.Verdicts.{IsVerdict, AreVerdicts}
+use Rattle.lf_app.specs.Commands.{is_plain, is_read_slot, is_built_verb, is_built_front, is_wide, is_built, HasReadForm, IsAsked, AsksFor, IsCommand, IsOneCommand}
 use Rattle.lf_app.specs.Lines.{lines_of}
-use Rattle.lf_app.specs.Outcome.{outcome_of, refusal, HasOneOutcome}
-use Rattle.lf_app.specs.Progress.{IsLineFormat}
-use Rattle.lf_app.proofs.Equality.{text_cases}
-use Rattle.lf_app.proofs.SpellingLaws.{too_many, not_apart, no_items, spells}
+use Rattle.lf_app.specs.Outcome.{outcome_of, shown, refused, HasOneOutcome}
+use Rattle.lf_app.specs.Progress.{CanWork, IsLineJob}
+use Rattle.lf_app.specs.Verdicts.{has_notes, IsFound, IsVerdict, AreVerdicts}
 use Rattle.lf_app.proofs.VerdictLaws.{not_both, no_note, one_verdict}
-use Rattle.lf_app.proofs.CommandLaws.{command_read, command_none, line_format}
+use Rattle.lf_app.proofs.CommandLaws.{SpellsOne, SeparatedIsReadable, command_one, command_ready, asks-built, asks-other}
 
-abbrev Decided : Type 0 → Type 0
-Decided P = P ⊎ (P → ⊥)
-
--- The letters of the class are visible.
-no_member : (x y b : ℕ) → x ≡ 0 → y ≡ 0 → cond (ltb b 128) (x == 1) (y == 1) ≡ true → ⊥
-no_member x y b p q is = grind (arith, nat_tests)
-
-visible_only : (b : ℕ) → is_letter visible b ≡ true → is_visible b ≡ true
-visible_only b is =
-    let member = (and_parts (ltb b 256) (is_member visible b) is).1 in
-    let high = bit_at-zero (b - 128) in
-    elim (cases_lt b 33) [
-      | inl below ↦ absurd (no_member (bit_at (2 ^ 127 - 2 ^ 33) b) (bit_at 0 (b - 128)) b (bit_at_mask_below 33 127 b below) high member)
-      | inr least ↦ elim (cases_lt b 127) [
-        | inl most ↦ grind (arith, nat_tests, least, most)
-        | inr above ↦ absurd (no_member (bit_at (2 ^ 127 - 2 ^ 33) b) (bit_at 0 (b - 128)) b (bit_at_mask_above 33 127 b above) high member)
+form_decided : (text : List ℕ) (pieces : List Piece) → Decided (HasReadForm text pieces)
+form_decided text pieces = elim (cases_Bool (list_all is_plain text)) [
+  | inr other ↦ inr (λ h. not_both (list_all is_plain text) h.plain other)
+  | inl plain ↦ elim (cases_Bool (list_all is_read_slot (slots_in pieces))) [
+    | inr other ↦ inr (λ h. not_both (list_all is_read_slot (slots_in pieces)) h.names other)
+    | inl names ↦ elim (cases_lt PATH_BYTES (length text)) [
+      | inl long ↦ inr (λ h. let short = h.short in omega (arith, short, long))
+      | inr short ↦ elim (cases_lt PATH_SLOTS (length (slots_in pieces))) [
+        | inl many ↦ inr (λ h. let few = h.few in omega (arith, few, many))
+        | inr few ↦ elim (separated_decided pieces) [
+          | inl apart ↦ inl (record { short = short; plain = plain; names = names; few = few; separated = apart })
+          | inr none ↦ inr (λ h. none h.separated)
+        ]
       ]
     ]
-
-plain_slot : (d : Directive) → IsPlainSlot (directive_slot d)
-plain_slot Host = record { unquoted = refl; one_dash = λ e. cc; kind = (refl, visible_only) }
-plain_slot Status = record { unquoted = refl; one_dash = λ e. cc; kind = refl }
-plain_slot Size = record { unquoted = refl; one_dash = λ e. cc; kind = refl }
-
--- Each slot is plain.
-abbrev AllPlain : List Piece → Type 0
-AllPlain [] = Unit {0}
-AllPlain (piece.Literal text ∷ pieces) = AllPlain pieces
-AllPlain (piece.Slot slot ∷ pieces) = IsPlainSlot slot × AllPlain pieces
-
-plain_byte : (b : ℕ) (pieces : List Piece) → AllPlain pieces → AllPlain (with_byte b pieces)
-plain_byte b [] all = tt
-plain_byte b (piece.Literal text ∷ pieces) all = all
-plain_byte b (piece.Slot slot ∷ pieces) all = all
-
-plain_pieces : (items : List Item) → AllPlain (pieces_of items)
-plain_pieces [] = tt
-plain_pieces (Byte b ∷ items) = plain_byte b (pieces_of items) (plain_pieces items)
-plain_pieces (Slot d ∷ items) = (plain_slot d, plain_pieces items)
-
-apart_decided : (k : Kind) (pieces : List Piece) → Decided (IsApart k pieces)
-apart_decided k [] = inl tt
-apart_decided k (piece.Literal [] ∷ pieces) = inr (λ h. h)
-apart_decided k (piece.Literal (b ∷ bs) ∷ pieces) = elim (cases_Bool (in_byte_set k b)) [ inl inside ↦ inr (λ h. not_both (in_byte_set k b) inside h) | inr outside ↦ inl outside ]
-apart_decided k (piece.Slot slot ∷ pieces) = inr (λ h. h)
-
-separated_decided : (pieces : List Piece) → AllPlain pieces → Decided (IsSeparated pieces)
-separated_decided [] all = inl tt
-separated_decided (piece.Literal text ∷ pieces) all = separated_decided pieces all
-separated_decided (piece.Slot slot ∷ pieces) all = elim (apart_decided slot.kind pieces) [
-  | inr none ↦ inr (λ h. none h.1)
-  | inl apart ↦ elim (separated_decided pieces all.1) [ inl rest ↦ inl (all.0, apart, rest) | inr none ↦ inr (λ h. none h.2) ]
-]
-
-form_decided : (text : List ℕ) → Decided (HasForm text)
-form_decided text = elim (cases_Bool (list_all is_plain text)) [
-  | inr other ↦ inr (λ h. not_both (list_all is_plain text) h.plain other)
-  | inl plain ↦ elim (cases_lt (length text) 1) [
-    | inl none ↦ inr (λ h. let some = h.some in omega (arith, some, none))
-    | inr some ↦ elim (cases_lt PATH_BYTES (length text)) [
-      | inl long ↦ inr (λ h. let short = h.short in omega (arith, short, long))
-      | inr short ↦ inl (record { some = some; short = short; plain = plain })
-    ]
   ]
 ]
 
--- A text spells a format, or none.
-abbrev Spelled : List ℕ → Type 0
-Spelled text = ((format : Shape) × Spells text format) ⊎ ((format : Shape) → Spells text format → ⊥)
+-- What a verb asks for by a format that a text spells.
+spelled_asked : (v : Verb) (text : List ℕ) (format : Shape) → is_built_verb v ≡ true → Spells text format → (c : Command) × IsAsked v text c
+spelled_asked verb.Write text format t s = (Lines (record { work = work.Write; format = format }), (refl, s, tt))
+spelled_asked verb.Show text format t s = (Show format, (refl, s))
+spelled_asked verb.Read text format t s = elim (form_decided text format.pieces) [
+  | inl form ↦ (Lines (record { work = work.Read; format = format }), (refl, s, form))
+  | inr other ↦ (Refuse NotBuilt, (refl, record { format = format; spelled = s; other = other }))
+]
+spelled_asked verb.Check text format t s = cc
+spelled_asked verb.Translate text format t s = cc
+spelled_asked verb.Gen text format t s = cc
 
-items_decided : (text : List ℕ) (o : Option (List Item)) → items_from false text ≡ o → HasForm text → Spelled text
-items_decided text None read form = inr (λ format s. no_items text format read s)
-items_decided text (Some items) read form = elim (cases_lt PATH_SLOTS (count_by is_slot items)) [
-  | inl many ↦ inr (λ format s. too_many text items (count_by is_slot items) format read refl many s)
-  | inr few ↦ elim (separated_decided (pieces_of items) (plain_pieces items)) [
-    | inr none ↦ inr (λ format s. not_apart text items (pieces_of items) format read refl none s)
-    | inl separated ↦
-        let format : Shape = record { pieces = pieces_of items; end = line_end.Lf; notes = false } in
-        inl (format, spells text items (pieces_of items) (count_by is_slot items) format read form refl few refl separated refl)
-  ]
+some_asked : (v : Verb) (text : List ℕ) → is_built_verb v ≡ true → SpellsOne → (c : Command) × IsAsked v text c
+some_asked v text t one = elim ((one text).some) [
+  | inl found ↦ spelled_asked v text found.0 t found.1
+  | inr fault ↦ (Refuse (BadFormat fault.0 fault.1), fault.2)
 ]
 
-spelled_decided : (text : List ℕ) → Spelled text
-spelled_decided text = elim (form_decided text) [
-  | inl form ↦ items_decided text (items_from false text) refl form
-  | inr none ↦ inr (λ format s. none s.form)
+built_verb : (line : CommandLine) → is_built line ≡ true → is_built_verb line.verb ≡ true
+built_verb line t = (and_parts (is_built_verb line.verb) (is_built_front line.source.front) (and_parts (is_built_verb line.verb && is_built_front line.source.front) (is_wide line.source.narrow) t).0).0
+
+some_asks : (line : CommandLine) → SpellsOne → (c : Command) × AsksFor line c
+some_asks line one = elim (cases_Bool (is_built line)) [
+  | inl t ↦
+      let found = some_asked line.verb line.source.format (built_verb line t) one in
+      (found.0, subst (λ (b : Bool). cond b (IsAsked line.verb line.source.format found.0) (found.0 ≡ Refuse NotBuilt)) (sym t) found.1)
+  | inr f ↦ (Refuse NotBuilt, subst (λ (b : Bool). cond b (IsAsked line.verb line.source.format (Refuse NotBuilt)) (◌≡◌ {A = Command} (Refuse NotBuilt) (Refuse NotBuilt))) (sym f) refl)
 ]
 
--- The words ask to read by a format, or they are not built.
-abbrev Asked : List (List ℕ) → Type 0
-Asked words = ((format : Shape) × SpellsRead words format) ⊎ IsCommand words NotBuilt
-
-three_words : (verb front text : List ℕ) → Asked (verb ∷ front ∷ text ∷ [])
-three_words verb front text = elim (text_cases verb (codes "read")) [
-  | inr other ↦ inr (λ format s. let is = s.words_are in other (cc))
-  | inl is_verb ↦ elim (text_cases front (codes "apache")) [
-    | inr other ↦ inr (λ format s. let is = s.words_are in other (cc))
-    | inl is_front ↦ elim (spelled_decided text) [
-      | inl found ↦ inl (found.0, record { text = text; words_are = cc; spelled = found.1 })
-      | inr none ↦ inr (λ format s.
-          let is = s.words_are in
-          let same : s.text ≡ text = cc in
-          none format (subst (λ (t : List ℕ). Spells t format) same s.spelled))
-    ]
-  ]
+never_bad : (line : CommandLine) → AsksFor line (Refuse BadWords) → ⊥
+never_bad line asks = elim (cases_Bool (is_built line)) [
+  | inl t ↦ asks-built line (Refuse BadWords) t asks
+  | inr f ↦ let e = asks-other line (Refuse BadWords) f asks in cc
 ]
 
-words_asked : (words : List (List ℕ)) → Asked words
-words_asked [] = inr (λ format s. let is = s.words_are in cc)
-words_asked (a ∷ []) = inr (λ format s. let is = s.words_are in cc)
-words_asked (a ∷ b ∷ []) = inr (λ format s. let is = s.words_are in cc)
-words_asked (a ∷ b ∷ c ∷ []) = three_words a b c
-words_asked (a ∷ b ∷ c ∷ d ∷ more) = inr (λ format s. let is = s.words_are in cc)
+line_is : (words : List (List ℕ)) (line : CommandLine) (c : Command) → IsLine words line → AsksFor line c → IsCommand words c
+line_is words line (Lines job) is asks = record { line = line; is = is; asks = asks }
+line_is words line (Show format) is asks = record { line = line; is = is; asks = asks }
+line_is words line (Refuse BadWords) is asks = absurd (never_bad line asks)
+line_is words line (Refuse (BadFormat place cause)) is asks = record { line = line; is = is; asks = asks }
+line_is words line (Refuse NotBuilt) is asks = record { line = line; is = is; asks = asks }
 
-pub one_command : (words : List (List ℕ)) → IsOneCommand words
-one_command words = elim (words_asked words) [
-  | inl found ↦ record { command = Read found.0; is = found.1; only = λ other is. command_read words found.0 other found.1 is }
-  | inr none ↦ record { command = NotBuilt; is = none; only = λ other is. command_none words other none is }
+some_command : (words : List (List ℕ)) → SpellsOne → (c : Command) × IsCommand words c
+some_command words one = elim (one_command_or_bad words) [
+  | inl u ↦ let found = some_asks u.0 one in (found.0, line_is words u.0 found.0 u.1 found.1)
+  | inr bad ↦ (Refuse BadWords, bad)
 ]
 
-abbrev LinesAreDecided : Type 0
+pub one_command : (words : List (List ℕ)) → SpellsOne → IsOneCommand words
+one_command words one =
+    let found = some_command words one in
+    record { command = found.0; is = found.1; only = λ other is. command_one words other found.0 one is found.1 }
+
+abbrev pub LinesAreDecided : Type 0
 LinesAreDecided = (pieces : List Piece) → IsSeparated pieces → (line : List ℕ) → ((rec : List Value) × Prints pieces rec line) ⊎ PrintsNone pieces line
 
-some_verdict : (format : Shape) (line : List ℕ) → LinesAreDecided → IsLineFormat format → (v : Verdict) × IsVerdict format line v
-some_verdict format line decided is =
-    let no = no_note format line is.no_notes in
+abbrev pub LinesAreRead : Type 0
+LinesAreRead = (pieces : List Piece) (line : List ℕ) → (answer : Result (List Value) BadRecord) × ReadsJson pieces line answer
+
+found_written : (format : Shape) (line : List ℕ) (answer : Result (List Value) BadRecord) → ReadsJson format.pieces line answer → (f : Finding) × IsFound work.Write format line f
+found_written format line (Ok r) h = (finding.Written r, h)
+found_written format line (Err bad) h = (finding.Bad bad, h)
+
+some_finding : (w : Work) (format : Shape) (line : List ℕ) → LinesAreDecided → LinesAreRead → CanWork w format.pieces → (f : Finding) × IsFound w format line f
+some_finding work.Read format line decided reads can = elim (decided format.pieces can.0 line) [
+  | inl found ↦ (finding.Read found.0, found.1)
+  | inr none ↦ (finding.Unread, none)
+]
+some_finding work.Write format line decided reads can = let read = reads format.pieces line in found_written format line read.0 read.1
+
+some_verdict : (job : Job) (line : List ℕ) → LinesAreDecided → LinesAreRead → IsLineJob job → (v : Verdict) × IsVerdict job line v
+some_verdict job line decided reads is =
+    let none = no_note job line is.no_notes in
     elim (cases_lt LINE (length line)) [
-      | inl long ↦ (verdict.Long, (no, long))
-      | inr short ↦ elim (decided format.pieces is.separated line) [
-        | inl found ↦ (verdict.Read found.0, (no, short, found.1))
-        | inr none ↦ (verdict.Unread, (no, short, none))
-      ]
+      | inl long ↦ (verdict.Long, (none, long))
+      | inr short ↦
+          let found = some_finding job.work job.format line decided reads is.can in
+          (verdict.Found found.0, (none, short, found.1))
     ]
 
-some_verdicts : (format : Shape) (lines : List (List ℕ)) → LinesAreDecided → IsLineFormat format → (vs : List Verdict) × AreVerdicts format lines vs
-some_verdicts format [] decided is = ([], tt)
-some_verdicts format (line ∷ lines) decided is =
-    let v = some_verdict format line decided is in
-    let vs = some_verdicts format lines decided is in
+some_verdicts : (job : Job) (lines : List (List ℕ)) → LinesAreDecided → LinesAreRead → IsLineJob job → (vs : List Verdict) × AreVerdicts job lines vs
+some_verdicts job [] decided reads is = ([], tt)
+some_verdicts job (line ∷ lines) decided reads is =
+    let v = some_verdict job line decided reads is in
+    let vs = some_verdicts job lines decided reads is in
     (v.0 ∷ vs.0, (v.1, vs.1))
 
-same_verdicts : (format : Shape) (lines : List (List ℕ)) (vs ws : List Verdict) → IsReadable format.pieces → AreVerdicts format lines vs → AreVerdicts format lines ws → vs ≡ ws
-same_verdicts format [] [] [] one p q = refl
-same_verdicts format [] [] (w ∷ ws) one p q = absurd q
-same_verdicts format [] (v ∷ vs) ws one p q = absurd p
-same_verdicts format (line ∷ lines) [] ws one p q = absurd p
-same_verdicts format (line ∷ lines) (v ∷ vs) [] one p q = absurd q
-same_verdicts format (line ∷ lines) (v ∷ vs) (w ∷ ws) one p q =
-    let first = one_verdict format line v w one p.0 q.0 in
-    let rest = same_verdicts format lines vs ws one p.1 q.1 in
+same_verdicts : (job : Job) (lines : List (List ℕ)) (vs ws : List Verdict) → CanWork job.work job.format.pieces → AreVerdicts job lines vs → AreVerdicts job lines ws → vs ≡ ws
+same_verdicts job [] [] [] can p q = refl
+same_verdicts job [] [] (w ∷ ws) can p q = absurd q
+same_verdicts job [] (v ∷ vs) ws can p q = absurd p
+same_verdicts job (line ∷ lines) [] ws can p q = absurd p
+same_verdicts job (line ∷ lines) (v ∷ vs) [] can p q = absurd q
+same_verdicts job (line ∷ lines) (v ∷ vs) (w ∷ ws) can p q =
+    let first = one_verdict job line v w can p.0 q.0 in
+    let rest = same_verdicts job lines vs ws can p.1 q.1 in
     cc
 
-pub one_outcome : (words : List (List ℕ)) (command : Command) (input : List ℕ) → ((pieces : List Piece) → IsSeparated pieces → IsReadable pieces) → LinesAreDecided → IsCommand words command → HasOneOutcome command input
-one_outcome words NotBuilt input readable decided is = record { outcome = refusal 2 (codes "logfmt: not built"); has = refl; only = λ other h. h }
-one_outcome words (Read format) input readable decided is =
-    let taken = line_format words format readable is in
-    let found = some_verdicts format (lines_of format.notes input) decided taken in
+pub one_outcome : (words : List (List ℕ)) (command : Command) (input : List ℕ) → SeparatedIsReadable → LinesAreDecided → LinesAreRead → IsCommand words command → HasOneOutcome command input
+one_outcome words (Show format) input readable decided reads is = record { outcome = shown format; has = refl; only = λ other h. h }
+one_outcome words (Refuse refusal) input readable decided reads is = record { outcome = refused 2 refusal; has = refl; only = λ other h. h }
+one_outcome words (Lines job) input readable decided reads is =
+    let ready = command_ready words (Lines job) readable is in
+    let found = some_verdicts job (lines_of (has_notes job) input) decided reads ready in
     record {
-      outcome = outcome_of found.0;
+      outcome = outcome_of job found.0;
       has = (found.0, found.1, refl);
-      only = λ other h. h.2 ∙ ap outcome_of (same_verdicts format (lines_of format.notes input) h.0 found.0 taken.readable h.1 found.1);
+      only = λ other h. h.2 ∙ ap (outcome_of job) (same_verdicts job (lines_of (has_notes job) input) h.0 found.0 ready.can h.1 found.1);
     }

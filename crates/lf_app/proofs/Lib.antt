@@ -3,9 +3,6 @@ pub mod LineLaws
 pub mod VerdictLaws
 pub mod Steps
 pub mod RunLaws
-pub mod SpellingLaws
-pub mod PieceLaws
-pub mod ClassLaws
 pub mod CommandLaws
 pub mod Deciding
-pub mod JsonLaws
+pub mod Texts

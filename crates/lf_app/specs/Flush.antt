@@ -1,6 +1,6 @@
 -- What the calls that write the report do.
 use Rattle.std.specs.Prelude.{◌≡◌, ℕ, ◌≤◌, ◌⊎◌, List, [], length, Option, Result, MatchResult}
-use Rattle.lf_format.specs.Shape.{Shape}
+use Rattle.lf_app.specs.declared.commands.Job.{Job}
 use Rattle.lf_io.specs.Faults.{Rose}
 use Rattle.lf_io.specs.Moves.{Takes}
 use Rattle.lf_io.specs.declared.sink.Put.{Put}
@@ -12,7 +12,7 @@ use Rattle.lf_app.specs.declared.status.Status.{Status}
 use Rattle.lf_app.specs.declared.limits.TheConstants.{MOST_BYTES}
 use Rattle.lf_app.specs.Verdicts.{out_text, err_text, any_listed}
 use Rattle.lf_app.specs.Progress.{HasRead}
-use Rattle.lf_app.specs.Commands.{Read}
+use Rattle.lf_app.specs.declared.commands.Command.TheVariants.{Lines}
 use Rattle.lf_app.specs.Run.{Front}
 use Rattle.lf_app.specs.Promise.{Runs}
 
@@ -28,10 +28,10 @@ pub record HasCauses (out_before out_now err_before err_now : ℕ) (failed : Typ
   pub cause : failed → Rose out_before out_now ⊎ Rose err_before err_now
 
 -- The reader has taken bytes, and all that it found of their whole lines is written.
-pub record Follows (format : Shape) (kept : Kept) (report : Report) (total : ℕ) (left later : Option (List ℕ)) (wrote_out wrote_err : List ℕ → Type 0) : Type 0 where
+pub record Follows (job : Job) (kept : Kept) (report : Report) (total : ℕ) (left later : Option (List ℕ)) (wrote_out wrote_err : List ℕ → Type 0) : Type 0 where
   pub taken : List ℕ
   pub found : List Verdict
-  pub read : HasRead format kept taken found
+  pub read : HasRead job kept taken found
   pub takes : Takes left later taken
   pub is_total : total ≡ length taken
   pub most : total ≤ MOST_BYTES
@@ -40,10 +40,10 @@ pub record Follows (format : Shape) (kept : Kept) (report : Report) (total : ℕ
   pub listed : report.is_partial ≡ any_listed found
   pub no_out : report.out ≡ []
   pub no_err : report.err ≡ []
-  pub out : wrote_out (out_text found)
+  pub out : wrote_out (out_text job found)
   pub err : wrote_err (err_text 1 found)
 
 -- The reader goes on, or the run ends with this status.
-abbrev pub GoesOn : Result (Unit {0}) Status → Shape → Kept → Report → ℕ → Option (List ℕ) → Option (List ℕ) → (List ℕ → Type 0) → (List ℕ → Type 0) → Type 0
-GoesOn result format kept report total left later out err =
-    MatchResult result (λ _. Follows format kept report total left later out err) (λ status. Runs (Read format) status.0 left later out err)
+abbrev pub GoesOn : Result (Unit {0}) Status → Job → Kept → Report → ℕ → Option (List ℕ) → Option (List ℕ) → (List ℕ → Type 0) → (List ℕ → Type 0) → Type 0
+GoesOn result job kept report total left later out err =
+    MatchResult result (λ _. Follows job kept report total left later out err) (λ status. Runs (Lines job) status.0 left later out err)

@@ -1,12 +1,8 @@
 pub mod Run
 pub mod Commands
 pub mod Outcome
-pub mod Spelling
-pub mod BoundLaws
 pub mod Lines
 pub mod Verdicts
-pub mod Json
-pub mod Reading
 pub mod Progress
 pub mod Flush
 pub mod Promise

@@ -1,9 +1,24 @@
 -- The outcome of a command on an input.
-use Rattle.std.specs.Prelude.{◌≡◌, ℕ, cond, List, [], ◌∷◌, ◌++◌, codes}
+use Rattle.std.specs.Prelude.{◌≡◌, ℕ, ◌+◌, cond, List, [], ◌∷◌, ◌++◌, codes}
+use Rattle.std.specs.Fmt.{decimal}
+use Rattle.lf_format.specs.Keeps.{slots_in}
+use Rattle.lf_format.specs.Kinds.{value_kind}
+use Rattle.lf_format.specs.Shape.{Shape}
+use Rattle.lf_format.specs.declared.fault.Cause.{Cause}
+use Rattle.lf_format.specs.declared.fault.Cause.TheVariants as cause
+use Rattle.lf_format.specs.declared.kind.ValueKind.{ValueKind}
+use Rattle.lf_format.specs.declared.kind.ValueKind.TheVariants as sort
+use Rattle.lf_format.specs.declared.slot.Absent.{Absent}
+use Rattle.lf_format.specs.declared.slot.Absent.TheVariants as absent
+use Rattle.lf_format.specs.declared.slot.Slot.{Slot}
+use Rattle.lf_app.specs.declared.commands.Command.{Command}
+use Rattle.lf_app.specs.declared.commands.Command.TheVariants.{Lines, Show, Refuse}
+use Rattle.lf_app.specs.declared.commands.Job.{Job}
+use Rattle.lf_app.specs.declared.commands.Refusal.{Refusal}
+use Rattle.lf_app.specs.declared.commands.Refusal.TheVariants.{BadWords, BadFormat, NotBuilt}
 use Rattle.lf_app.specs.declared.verdict.Verdict.{Verdict}
-use Rattle.lf_app.specs.Commands.{Command, Read, NotBuilt}
 use Rattle.lf_app.specs.Lines.{lines_of}
-use Rattle.lf_app.specs.Verdicts.{AreVerdicts, out_text, err_text, any_listed}
+use Rattle.lf_app.specs.Verdicts.{AreVerdicts, has_notes, out_text, err_text, any_listed}
 
 -- a status, and what `out` and `err` get
 pub record Outcome : Type 0 where
@@ -11,18 +26,64 @@ pub record Outcome : Type 0 where
   pub out : List ℕ
   pub err : List ℕ
 
--- a refusal with this status and line
-abbrev pub refusal : ℕ → List ℕ → Outcome
-refusal status line = record { status = status; out = []; err = line ++ 10 ∷ [] }
+-- the name of a cause
+abbrev pub cause_text : Cause → List ℕ
+cause_text cause.UnknownName = codes "UnknownName"
+cause_text cause.BadName = codes "BadName"
+cause_text cause.Unclosed = codes "Unclosed"
+cause_text cause.BadFlags = codes "BadFlags"
+cause_text cause.BadLength = codes "BadLength"
+cause_text cause.LineBreak = codes "LineBreak"
+cause_text cause.EmptyFormat = codes "EmptyFormat"
+cause_text cause.TooManySlots = codes "TooManySlots"
+
+-- what `err` gets of a refusal, without its line feed
+abbrev pub refusal_text : Refusal → List ℕ
+refusal_text BadWords = codes "logfmt: bad command line"
+refusal_text (BadFormat place why) = codes "logfmt: source format: " ++ cause_text why ++ codes " at " ++ decimal place
+refusal_text NotBuilt = codes "logfmt: not built"
+
+-- a refusal with this status
+abbrev pub refused : ℕ → Refusal → Outcome
+refused status refusal = record { status = status; out = []; err = refusal_text refusal ++ 10 ∷ [] }
+
+-- the word for a sort of values
+abbrev pub kind_text : ValueKind → List ℕ
+kind_text sort.Number = codes "number"
+kind_text sort.Text = codes "text"
+kind_text sort.Moment = codes "moment"
+kind_text sort.Day = codes "day"
+kind_text sort.Clock = codes "clock"
+
+-- the word for how a missing value is printed
+abbrev pub absent_text : Absent → List ℕ
+absent_text absent.No = codes "no"
+absent_text absent.Dash = codes "dash"
+absent_text absent.DashTwo = codes "dash"
+absent_text absent.Blank = codes "blank"
+
+-- what is shown of the slot of this number: number, name, sort of values, and how a missing one is printed
+abbrev pub slot_line : ℕ → Slot → List ℕ
+slot_line k slot = (115 ∷ decimal k) ++ (32 ∷ slot.name) ++ (32 ∷ kind_text (value_kind slot.kind)) ++ (32 ∷ absent_text slot.absent) ++ 10 ∷ []
+
+-- what is shown of slots that are numbered from k on
+abbrev pub slot_lines : ℕ → List Slot → List ℕ
+slot_lines k [] = []
+slot_lines k (slot ∷ slots) = slot_line k slot ++ slot_lines (k + 1) slots
+
+-- what is shown of a format
+abbrev pub shown : Shape → Outcome
+shown format = record { status = 0; out = slot_lines 1 (slots_in format.pieces); err = [] }
 
 -- the outcome of lines of these verdicts
-abbrev pub outcome_of : List Verdict → Outcome
-outcome_of verdicts = record { status = cond (any_listed verdicts) 3 0; out = out_text verdicts; err = err_text 1 verdicts }
+abbrev pub outcome_of : Job → List Verdict → Outcome
+outcome_of job verdicts = record { status = cond (any_listed verdicts) 3 0; out = out_text job verdicts; err = err_text 1 verdicts }
 
 -- The command on this input has this outcome.
 abbrev pub HasOutcome : Command → List ℕ → Outcome → Type 0
-HasOutcome (Read format) input o = (verdicts : List Verdict) × AreVerdicts format (lines_of format.notes input) verdicts × (o ≡ outcome_of verdicts)
-HasOutcome NotBuilt input o = o ≡ refusal 2 (codes "logfmt: not built")
+HasOutcome (Lines job) input o = (verdicts : List Verdict) × AreVerdicts job (lines_of (has_notes job) input) verdicts × (o ≡ outcome_of job verdicts)
+HasOutcome (Show format) input o = o ≡ shown format
+HasOutcome (Refuse refusal) input o = o ≡ refused 2 refusal
 
 -- The command on this input has one outcome and no other.
 pub record HasOneOutcome (command : Command) (input : List ℕ) : Type 0 where

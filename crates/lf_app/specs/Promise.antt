@@ -3,7 +3,8 @@ use Rattle.std.specs.Prelude.{◌≡◌, ℕ, ◌≤◌, List, length, Option, �
 use Rattle.lf_io.specs.Faults.{Rose}
 use Rattle.lf_io.specs.Moves.{Takes}
 use Rattle.lf_app.specs.declared.limits.TheConstants.{MOST_BYTES}
-use Rattle.lf_app.specs.Commands.{Command, TakesInput}
+use Rattle.lf_app.specs.declared.commands.Command.{Command}
+use Rattle.lf_app.specs.Commands.{TakesInput}
 use Rattle.lf_app.specs.Run.{IsSettled, IsCut, WritesWholeLines, WritesFronts, Front}
 
 -- How many bytes were taken: no more than MOST_BYTES, and so many only at the statuses 5, 6 and 8.
@@ -28,7 +29,7 @@ pub record Tells (status : ℕ) (source_before source_now out_before out_now err
   pub sink : status ≡ 5 → Rose out_before out_now ⊎ Rose err_before err_now
   pub known : status ≤ 8
 
--- At status 2 the text was written, and else a front of it.
-pub record Refuses (status : ℕ) (text : List ℕ) (err : List ℕ → Type 0) : Type 0 where
-  pub whole : status ≡ 2 → err text
-  pub part : Front text err
+-- At this good status the text was written, and else a front of it.
+pub record Says (good status : ℕ) (text : List ℕ) (appended : List ℕ → Type 0) : Type 0 where
+  pub whole : status ≡ good → appended text
+  pub part : Front text appended

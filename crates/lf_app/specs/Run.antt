@@ -6,7 +6,8 @@ use Rattle.lf_io.specs.Moves.{Takes, IsAtEnd}
 use Rattle.lf_io.specs.Faults.{Rose}
 use Rattle.lf_app.specs.declared.limits.TheConstants.{MOST_BYTES}
 use Rattle.lf_app.specs.Lines.{whole_part}
-use Rattle.lf_app.specs.Commands.{Command, TakesInput}
+use Rattle.lf_app.specs.declared.commands.Command.{Command}
+use Rattle.lf_app.specs.Commands.{TakesInput}
 use Rattle.lf_app.specs.Outcome.{Outcome, HasOutcome}
 
 -- Done, Ambiguous, Usage, Partial and TooLarge: the run came to its end.

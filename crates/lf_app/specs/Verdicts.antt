@@ -1,66 +1,130 @@
--- What a format says of a line, and what is written of it.
-use Rattle.std.specs.Prelude.{◌≡◌, ℕ, ◌+◌, ◌<◌, ◌≤◌, Bool, true, false, ◌||◌, ◌&&◌, ◌==◌, List, [], ◌∷◌, ◌++◌, length, codes}
+-- What is found of a line, and what is written of it.
+use Rattle.std.specs.Prelude.{◌≡◌, ℕ, ◌+◌, ◌<◌, ◌≤◌, Bool, true, false, ◌||◌, ◌&&◌, ◌==◌, List, [], ◌∷◌, ◌++◌, length, codes, Ok, Err}
 use Rattle.std.specs.List.{flat_map}
 use Rattle.std.specs.Fmt.{decimal}
 use Rattle.lf_format.specs.Shape.{Shape}
-use Rattle.lf_format.specs.Lines.{Prints, PrintsNone}
+use Rattle.lf_format.specs.Lines.{Prints, PrintsNone, line_text, IsRecordOf}
+use Rattle.lf_format.specs.declared.format.LineEnd.{LineEnd}
+use Rattle.lf_format.specs.declared.format.LineEnd.TheVariants.{Lf, CrLf}
+use Rattle.lf_json.specs.Reading.{ReadsJson}
+use Rattle.lf_json.specs.Text.{json_text}
+use Rattle.lf_json.specs.declared.bad_record.BadRecord.{BadRecord}
+use Rattle.lf_json.specs.declared.bad_record.BadRecord.TheVariants.{NotJson, WrongCount, WrongValue, OutOfMemory}
+use Rattle.lf_app.specs.declared.commands.Job.{Job}
+use Rattle.lf_app.specs.declared.commands.Work.{Work}
+use Rattle.lf_app.specs.declared.commands.Work.TheVariants as work
+use Rattle.lf_app.specs.declared.verdict.Finding.{Finding}
+use Rattle.lf_app.specs.declared.verdict.Finding.TheVariants.{Read, Unread, Written, Bad}
 use Rattle.lf_app.specs.declared.verdict.Verdict.{Verdict}
-use Rattle.lf_app.specs.declared.verdict.Verdict.TheVariants.{Note, Long, Read, Unread}
+use Rattle.lf_app.specs.declared.verdict.Verdict.TheVariants.{Note, Long, Found}
 use Rattle.lf_app.specs.declared.limits.TheConstants.{LINE}
-use Rattle.lf_app.specs.Json.{json_text}
 
 -- whether the line begins with `#`
 abbrev pub has_hash : List ℕ → Bool
 has_hash [] = false
 has_hash (b ∷ bs) = b == 35
 
--- whether the line is a note of the format
-abbrev pub is_note : Shape → List ℕ → Bool
-is_note format line = format.notes && has_hash line
+-- whether a stream that is worked on so has notes, where the format's lines may: lines of JSON have none
+abbrev pub notes_under : Work → Bool → Bool
+notes_under work.Read notes = notes
+notes_under work.Write notes = false
 
--- The verdict of a line: it is a note, or long, or a record of the format prints it, or none does.
-abbrev pub IsVerdict : Shape → List ℕ → Verdict → Type 0
-IsVerdict format line Note = is_note format line ≡ true
-IsVerdict format line Long = (is_note format line ≡ false) × (LINE < length line)
-IsVerdict format line (Read r) = (is_note format line ≡ false) × (length line ≤ LINE) × Prints format.pieces r line
-IsVerdict format line Unread = (is_note format line ≡ false) × (length line ≤ LINE) × PrintsNone format.pieces line
+-- whether the stream may have notes
+abbrev pub has_notes : Job → Bool
+has_notes job = notes_under job.work job.format.notes
+
+-- whether the line is a note of the stream
+abbrev pub is_note : Job → List ℕ → Bool
+is_note job line = has_notes job && has_hash line
+
+-- What is found of a line: the record that prints it, or that none does; or the record that it is as JSON, or why it is none.
+abbrev pub IsFound : Work → Shape → List ℕ → Finding → Type 0
+IsFound work.Read format line (Read r) = Prints format.pieces r line
+IsFound work.Read format line Unread = PrintsNone format.pieces line
+IsFound work.Write format line (Written r) = ReadsJson format.pieces line (Ok r)
+IsFound work.Write format line (Bad bad) = ReadsJson format.pieces line (Err bad)
+IsFound work format line finding = ⊥
+
+-- The verdict of a line: it is a note, or long, or what is found of it.
+abbrev pub IsVerdict : Job → List ℕ → Verdict → Type 0
+IsVerdict job line Note = is_note job line ≡ true
+IsVerdict job line Long = (is_note job line ≡ false) × (LINE < length line)
+IsVerdict job line (Found finding) = (is_note job line ≡ false) × (length line ≤ LINE) × IsFound job.work job.format line finding
 
 -- The verdicts of lines, in order.
-abbrev pub AreVerdicts : Shape → List (List ℕ) → List Verdict → Type 0
-AreVerdicts format [] [] = Unit {0}
-AreVerdicts format [] (v ∷ vs) = ⊥
-AreVerdicts format (l ∷ ls) [] = ⊥
-AreVerdicts format (l ∷ ls) (v ∷ vs) = IsVerdict format l v × AreVerdicts format ls vs
+abbrev pub AreVerdicts : Job → List (List ℕ) → List Verdict → Type 0
+AreVerdicts job [] [] = Unit {0}
+AreVerdicts job [] (v ∷ vs) = ⊥
+AreVerdicts job (l ∷ ls) [] = ⊥
+AreVerdicts job (l ∷ ls) (v ∷ vs) = IsVerdict job l v × AreVerdicts job ls vs
 
--- what `out` gets of a line: its record's JSON
-abbrev pub out_of : Verdict → List ℕ
-out_of Note = []
-out_of Long = []
-out_of (Read r) = json_text r ++ 10 ∷ []
-out_of Unread = []
+-- what ends a line
+abbrev pub end_text : LineEnd → List ℕ
+end_text Lf = 10 ∷ []
+end_text CrLf = 13 ∷ 10 ∷ []
+
+-- what `out` gets of a finding: the record's JSON, or its line with the format's end
+abbrev pub finding_text : Shape → Finding → List ℕ
+finding_text format (Read r) = json_text r ++ 10 ∷ []
+finding_text format Unread = []
+finding_text format (Written r) = line_text format.pieces r ++ end_text format.end
+finding_text format (Bad bad) = []
+
+-- what `out` gets of a line
+abbrev pub out_of : Job → Verdict → List ℕ
+out_of job Note = []
+out_of job Long = []
+out_of job (Found finding) = finding_text job.format finding
+
+-- a line of `err` that lists the line of this number
+abbrev pub listed_line : List ℕ → ℕ → List ℕ → List ℕ
+listed_line word n cause = word ++ decimal n ++ cause ++ 10 ∷ []
+
+-- why a line of JSON is no record
+abbrev pub bad_text : BadRecord → List ℕ
+bad_text NotJson = codes " NotJson"
+bad_text (WrongCount n) = codes " WrongCount " ++ decimal n
+bad_text (WrongValue k) = codes " WrongValue s" ++ decimal k
+bad_text OutOfMemory = []
+
+-- what `err` gets of a finding at the line of this number
+abbrev pub finding_err : ℕ → Finding → List ℕ
+finding_err n (Read r) = []
+finding_err n Unread = listed_line (codes "unread ") n []
+finding_err n (Written r) = []
+finding_err n (Bad bad) = listed_line (codes "bad ") n (bad_text bad)
 
 -- what `err` gets of the line of this number
 abbrev pub err_of : ℕ → Verdict → List ℕ
 err_of n Note = []
-err_of n Long = codes "long " ++ decimal n ++ 10 ∷ []
-err_of n (Read r) = []
-err_of n Unread = codes "unread " ++ decimal n ++ 10 ∷ []
+err_of n Long = listed_line (codes "long ") n []
+err_of n (Found finding) = finding_err n finding
 
-abbrev pub out_text : List Verdict → List ℕ
-out_text = flat_map out_of
+-- what `out` gets of lines
+abbrev pub out_text : Job → List Verdict → List ℕ
+out_text job = flat_map (out_of job)
 
--- for lines that are numbered from n on
+-- what `err` gets of lines that are numbered from n on
 abbrev pub err_text : ℕ → List Verdict → List ℕ
 err_text n [] = []
 err_text n (v ∷ vs) = err_of n v ++ err_text (n + 1) vs
 
--- the line is listed on `err`
+-- whether `err` lists the line
 abbrev pub is_listed : Verdict → Bool
 is_listed Note = false
 is_listed Long = true
-is_listed (Read r) = false
-is_listed Unread = true
+is_listed (Found (Read r)) = false
+is_listed (Found Unread) = true
+is_listed (Found (Written r)) = false
+is_listed (Found (Bad bad)) = true
 
+-- whether `err` lists some line
 abbrev pub any_listed : List Verdict → Bool
 any_listed [] = false
 any_listed (v ∷ vs) = is_listed v || any_listed vs
+
+-- The records that were found are records of the format.
+abbrev pub IsOfFormat : Shape → Verdict → Type 0
+IsOfFormat format (Found (Read r)) = IsRecordOf format.pieces r
+IsOfFormat format (Found (Written r)) = IsRecordOf format.pieces r
+IsOfFormat format v = Unit {0}

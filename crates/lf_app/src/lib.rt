@@ -4,18 +4,16 @@
 mod commands;
 mod flush;
 mod gate;
-mod items;
-mod json;
 mod kept;
 pub mod laws;
 mod limits;
 mod passes;
 mod reading;
-mod refusals;
 mod report;
 mod running;
-mod spelling;
+mod showing;
 mod status;
+mod telling;
 mod verdict;
 
 pub use gate::{Gate, IdleGate};

@@ -8,4 +8,4 @@ pub const MOST_BYTES: u64 = 1 << 62;
 pub const PATH_BYTES: usize = 256;
 
 /// The greatest number of slots that a format text spells.
-pub const PATH_SLOTS: usize = 16;
+pub const PATH_SLOTS: u32 = 16;

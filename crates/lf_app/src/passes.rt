@@ -2,25 +2,25 @@ ghost use Rattle.std.specs.Prelude.{◌≡◌, ◌+◌, ◌<◌, ◌≤◌, ◌�
 ghost use Rattle.lf_io.specs.Faults.{HasCause, Rose};
 ghost use Rattle.lf_io.specs.Moves.{Gets, Takes, IsAtEnd};
 ghost use Rattle.lf_io.specs.Steps.{Pulls};
-ghost use Rattle.lf_app.specs.Commands.{Read as ReadCommand};
-ghost use Rattle.lf_app.specs.Progress.{IsLineFormat};
+ghost use Rattle.lf_app.specs.declared.commands.Command.TheVariants.{Lines};
+ghost use Rattle.lf_app.specs.Progress.{IsLineJob};
 ghost use Rattle.lf_app.specs.Promise.{Runs, Tells};
 ghost use Rattle.lf_app.specs.Flush.{HasCauses, Follows, GoesOn};
 
+use crate::commands::Job;
 use crate::flush::flush;
 use crate::kept::Kept;
 use crate::limits::MOST_BYTES;
 use crate::reading::{feed, finish};
 use crate::report::Report;
 use crate::status::Status;
-use lf_format::Format;
 use lf_io::{Pulled, Put, Sink, Source};
 use std::alloc::Global;
 
 /// The next bytes of the stream are read, and what is found of their lines is written.
 fn pass_piece<O: Sink, E: Sink>(
     alloc: Global,
-    format: &Format,
+    job: &Job,
     kept: &mut Kept,
     report: &mut Report,
     total: u64,
@@ -28,17 +28,17 @@ fn pass_piece<O: Sink, E: Sink>(
     out: &mut O,
     err: &mut E,
 ) -> Result<(), Status>
-    requires format { IsLineFormat format.now }
+    requires job { IsLineJob job.now }
     requires room { total + length piece.now ≤ MOST_BYTES }
     requires lines { report.old.count ≤ total }
     ensures goes_on { (left later now : Option (List ℕ)) (out_got err_got : Option (List ℕ))
-        → Follows format.now kept.old report.old total left later (Gets out_got (O.got out.old)) (Gets err_got (E.got err.old))
+        → Follows job.now kept.old report.old total left later (Gets out_got (O.got out.old)) (Gets err_got (E.got err.old))
         → Takes later now piece.now
-        → GoesOn result format.now kept.new report.new (total + length piece.now) left now (Gets out_got (O.got out.new)) (Gets err_got (E.got err.new)) }
+        → GoesOn result job.now kept.new report.new (total + length piece.now) left now (Gets out_got (O.got out.new)) (Gets err_got (E.got err.new)) }
     ensures faults { HasCauses (O.faults out.old) (O.faults out.new) (E.faults err.old) (E.faults err.new) (IsErrAnd result (λ s. s.0 ≡ 5)) }
     ensures known { IfErr result (λ s. s.0 ≡ 5 ⊎ s.0 ≡ 6) }
 {
-    let Ok(()) = feed(alloc, format, kept, report, piece) else {
+    let Ok(()) = feed(alloc, job, kept, report, piece) else {
         return Err(Status(6));
     };
     match flush(report, out, err) {
@@ -50,22 +50,22 @@ fn pass_piece<O: Sink, E: Sink>(
 /// The stream has ended: the last line is read and written.
 fn close<O: Sink, E: Sink>(
     alloc: Global,
-    format: &Format,
+    job: &Job,
     kept: &mut Kept,
     report: &mut Report,
     out: &mut O,
     err: &mut E,
 ) -> Status
-    requires format { IsLineFormat format.now }
+    requires job { IsLineJob job.now }
     requires lines { report.old.count < MOST_BYTES }
     ensures runs { (total : ℕ) (left later : Option (List ℕ)) (out_got err_got : Option (List ℕ))
-        → Follows format.now kept.old report.old total left later (Gets out_got (O.got out.old)) (Gets err_got (E.got err.old))
+        → Follows job.now kept.old report.old total left later (Gets out_got (O.got out.old)) (Gets err_got (E.got err.old))
         → total < MOST_BYTES → IsAtEnd later
-        → Runs (ReadCommand format.now) result.0 left later (Gets out_got (O.got out.new)) (Gets err_got (E.got err.new)) }
+        → Runs (Lines job.now) result.0 left later (Gets out_got (O.got out.new)) (Gets err_got (E.got err.new)) }
     ensures faults { HasCauses (O.faults out.old) (O.faults out.new) (E.faults err.old) (E.faults err.new) (result.0 ≡ 5) }
     ensures known { result.0 ≤ 3 ⊎ result.0 ≡ 5 ⊎ result.0 ≡ 6 }
 {
-    let Ok(()) = finish(alloc, format, kept, report) else {
+    let Ok(()) = finish(alloc, job, kept, report) else {
         return Status(6);
     };
     match flush(report, out, err) {
@@ -97,15 +97,15 @@ fn pull_most<S: Source>(input: &mut S, buffer: &mut [u8], most: u64) -> Pulled
 /// Reads the source to its end, through a buffer.
 fn read_through<S: Source, O: Sink, E: Sink>(
     alloc: Global,
-    format: &Format,
+    job: &Job,
     buffer: &mut [u8],
     input: &mut S,
     out: &mut O,
     err: &mut E,
 ) -> Status
-    requires format { IsLineFormat format.now }
+    requires job { IsLineJob job.now }
     requires room { 0 < length buffer.old }
-    ensures runs { Runs (ReadCommand format.now) result.0 (S.left input.old) (S.left input.new) (Gets (O.got out.old) (O.got out.new)) (Gets (E.got err.old) (E.got err.new)) }
+    ensures runs { Runs (Lines job.now) result.0 (S.left input.old) (S.left input.new) (Gets (O.got out.old) (O.got out.new)) (Gets (E.got err.old) (E.got err.new)) }
     ensures tells { Tells result.0 (S.faults input.old) (S.faults input.new) (O.faults out.old) (O.faults out.new) (E.faults err.old) (E.faults err.new) }
 {
     let mut kept = Kept::new(alloc);
@@ -118,21 +118,12 @@ fn read_through<S: Source, O: Sink, E: Sink>(
         match pull_most(input, buffer, MOST_BYTES - total) {
             Pulled::Took(count) => {
                 let piece = buffer.split_at(count).0;
-                match pass_piece(
-                    alloc,
-                    format,
-                    &mut kept,
-                    &mut report,
-                    total,
-                    piece,
-                    out,
-                    err,
-                ) {
+                match pass_piece(alloc, job, &mut kept, &mut report, total, piece, out, err) {
                     Ok(()) => total += count as u64,
                     Err(status) => return status,
                 }
             }
-            Pulled::End => return close(alloc, format, &mut kept, &mut report, out, err),
+            Pulled::End => return close(alloc, job, &mut kept, &mut report, out, err),
             Pulled::Failed => return Status(4),
         }
     }
@@ -141,20 +132,20 @@ fn read_through<S: Source, O: Sink, E: Sink>(
 /// How many bytes are pulled at a time.
 const BUFFER: usize = 262_144;
 
-/// Reads the source to its end.
-pub fn read_lines<S: Source, O: Sink, E: Sink>(
+/// Works on the lines of the source, to its end.
+pub fn work_lines<S: Source, O: Sink, E: Sink>(
     alloc: Global,
-    format: &Format,
+    job: &Job,
     input: &mut S,
     out: &mut O,
     err: &mut E,
 ) -> Status
-    requires { IsLineFormat format.now }
-    ensures runs { Runs (ReadCommand format.now) result.0 (S.left input.old) (S.left input.new) (Gets (O.got out.old) (O.got out.new)) (Gets (E.got err.old) (E.got err.new)) }
+    requires { IsLineJob job.now }
+    ensures runs { Runs (Lines job.now) result.0 (S.left input.old) (S.left input.new) (Gets (O.got out.old) (O.got out.new)) (Gets (E.got err.old) (E.got err.new)) }
     ensures tells { Tells result.0 (S.faults input.old) (S.faults input.new) (O.faults out.old) (O.faults out.new) (E.faults err.old) (E.faults err.new) }
 {
     match vec![in alloc; 0u8; BUFFER] {
-        Ok(mut buffer) => read_through(alloc, format, buffer.as_mut_slice(), input, out, err),
+        Ok(mut buffer) => read_through(alloc, job, buffer.as_mut_slice(), input, out, err),
         Err(_) => Status(6),
     }
 }

@@ -1,36 +1,32 @@
 ghost use Rattle.std.specs.Prelude.{◌≡◌, ◌+◌, ◌<◌, ◌≤◌, ℕ, List, [], ◌∷◌, ◌++◌, length, IfOk, OnOk};
 ghost use Rattle.lf_app.specs.declared.verdict.Verdict.{Verdict as OneVerdict};
-ghost use Rattle.lf_app.specs.Verdicts.{IsVerdict};
-ghost use Rattle.lf_app.specs.Progress.{IsLineFormat, Keeps, HasRead, EndsLine, Grows, Finishes};
+ghost use Rattle.lf_app.specs.Verdicts.{IsVerdict, IsOfFormat};
+ghost use Rattle.lf_app.specs.Progress.{IsLineJob, Keeps, HasRead, EndsLine, Grows, Finishes};
 
+use crate::commands::Job;
 use crate::kept::Kept;
 use crate::limits::MOST_BYTES;
 use crate::report::Report;
 use crate::verdict::{Verdict, verdict_of};
 use lf_core::OutOfMemory;
-use lf_format::Format;
 use memchr::memchr;
 use std::alloc::Global;
 
 /// What is found of the line that ends after these bytes.
-fn end_line(
-    alloc: Global,
-    format: &Format,
-    kept: &mut Kept,
-    front: &[u8],
-) -> Result<Verdict, OutOfMemory>
-    requires { IsLineFormat format.now }
-    ensures { IfOk result (λ found. (rest : List ℕ) → Keeps kept.old rest
-        → IsVerdict format.now (rest ++ front.now) found × Keeps kept.new []) }
+fn end_line(alloc: Global, job: &Job, kept: &mut Kept, front: &[u8]) -> Result<Verdict, OutOfMemory>
+    requires { IsLineJob job.now }
+    ensures verdict { IfOk result (λ found. (rest : List ℕ) → Keeps kept.old rest
+        → IsVerdict job.now (rest ++ front.now) found × Keeps kept.new []) }
+    ensures record { IfOk result (IsOfFormat job.now.format) }
 {
     if kept.is_empty() {
-        return verdict_of(alloc, format, front);
+        return verdict_of(alloc, job, front);
     }
     kept.add(front)?;
     let found = if kept.is_long {
         Verdict::Long
     } else {
-        verdict_of(alloc, format, kept.bytes.as_slice())?
+        verdict_of(alloc, job, kept.bytes.as_slice())?
     };
     kept.clear();
     Ok(found)
@@ -39,38 +35,38 @@ fn end_line(
 /// Reports what is found of the line that ends after these bytes.
 fn report_line(
     alloc: Global,
-    format: &Format,
+    job: &Job,
     kept: &mut Kept,
     report: &mut Report,
     front: &[u8],
 ) -> Result<(), OutOfMemory>
-    requires format { IsLineFormat format.now }
+    requires job { IsLineJob job.now }
     requires count { report.old.count < MOST_BYTES }
     ensures line { OnOk result ((rest : List ℕ) → Keeps kept.old rest
-        → EndsLine format.now kept.new report.old report.new (rest ++ front.now)) }
+        → EndsLine job.now kept.new report.old report.new (rest ++ front.now)) }
     ensures count { OnOk result (report.new.count ≡ report.old.count + 1) }
 {
-    let found = end_line(alloc, format, kept, front)?;
-    report.add(&found)
+    let found = end_line(alloc, job, kept, front)?;
+    report.add(job, &found)
 }
 
 /// Reads the next bytes of a stream, and reports each line that ends in them.
 pub fn feed(
     alloc: Global,
-    format: &Format,
+    job: &Job,
     kept: &mut Kept,
     report: &mut Report,
     piece: &[u8],
 ) -> Result<(), OutOfMemory>
-    requires format { IsLineFormat format.now }
+    requires job { IsLineJob job.now }
     requires count { report.old.count + length piece.now ≤ MOST_BYTES }
-    ensures read { OnOk result ((taken : List ℕ) (found : List OneVerdict) → HasRead format.now kept.old taken found
-        → Grows format.now kept.new report.old report.new (taken ++ piece.now) found) }
+    ensures read { OnOk result ((taken : List ℕ) (found : List OneVerdict) → HasRead job.now kept.old taken found
+        → Grows job.now kept.new report.old report.new (taken ++ piece.now) found) }
     ensures count { OnOk result (report.new.count ≤ report.old.count + length piece.now) }
 {
     let mut left = piece;
     while let Some(end) = memchr(b'\n', left) {
-        report_line(alloc, format, kept, report, left.split_at(end).0)?;
+        report_line(alloc, job, kept, report, left.split_at(end).0)?;
         left = left.split_at(end + 1).1;
     }
     kept.add(left)
@@ -79,17 +75,17 @@ pub fn feed(
 /// Reports the last line, where the stream doesn't end in a line feed.
 pub fn finish(
     alloc: Global,
-    format: &Format,
+    job: &Job,
     kept: &mut Kept,
     report: &mut Report,
 ) -> Result<(), OutOfMemory>
-    requires format { IsLineFormat format.now }
+    requires job { IsLineJob job.now }
     requires count { report.old.count < MOST_BYTES }
-    ensures { OnOk result ((taken : List ℕ) (found : List OneVerdict) → HasRead format.now kept.old taken found
-        → Finishes format.now report.old report.new taken found) }
+    ensures { OnOk result ((taken : List ℕ) (found : List OneVerdict) → HasRead job.now kept.old taken found
+        → Finishes job.now report.old report.new taken found) }
 {
     if kept.is_empty() {
         return Ok(());
     }
-    report_line(alloc, format, kept, report, &[])
+    report_line(alloc, job, kept, report, &[])
 }

@@ -1,10 +1,16 @@
-ghost use Rattle.std.specs.Prelude.{◌≡◌, ◌+◌, ◌<◌, true, false, [], ◌∷◌, ◌++◌, OnOk, decimal};
+ghost use Rattle.std.specs.Prelude.{◌≡◌, ◌+◌, ◌<◌, ◌||◌, true, false, ℕ, [], ◌∷◌, ◌++◌, OnOk};
+ghost use Rattle.std.specs.Fmt.{decimal};
+ghost use Rattle.lf_app.specs.Verdicts.{end_text, finding_text, finding_err, bad_text, is_listed, listed_line, IsOfFormat};
+ghost use Rattle.lf_app.specs.declared.verdict.Finding.TheVariants as finding;
+ghost use Rattle.lf_app.specs.declared.verdict.Verdict.TheVariants as verdict;
 
-use crate::json::write_record;
+use crate::commands::Job;
 use crate::limits::MOST_BYTES;
-use crate::verdict::Verdict;
+use crate::verdict::{Finding, Verdict};
 use itoa::Buffer;
 use lf_core::{Bytes, OutOfMemory};
+use lf_format::{Format, LineEnd};
+use lf_json::{BadRecord, write_record};
 use std::alloc::Global;
 
 /// What is to be written of the lines so far: their number, whether one was listed, and both texts.
@@ -14,6 +20,42 @@ pub struct Report {
     pub is_partial: bool,
     pub out: Bytes,
     pub err: Bytes,
+}
+
+/// Appends a number in decimal.
+pub fn push_number(number: u64, into: &mut Bytes) -> Result<(), OutOfMemory>
+    ensures { OnOk result (into.new ≡ into.old ++ decimal number) }
+{
+    let mut buffer = Buffer::new();
+    into.extend(buffer.format(number).as_bytes())
+}
+
+/// Appends why a line of JSON is no record.
+fn push_bad(bad: &BadRecord, into: &mut Bytes) -> Result<(), OutOfMemory>
+    ensures { OnOk result (into.new ≡ into.old ++ bad_text bad.now) }
+{
+    match bad {
+        BadRecord::NotJson => into.extend(b" NotJson"),
+        BadRecord::WrongCount(count) => {
+            into.extend(b" WrongCount ")?;
+            push_number(*count, into)
+        }
+        BadRecord::WrongValue(slot) => {
+            into.extend(b" WrongValue s")?;
+            push_number(*slot as u64, into)
+        }
+        BadRecord::OutOfMemory => Ok(()),
+    }
+}
+
+/// What ends a line.
+fn end_of(end: LineEnd) -> &'static [u8]
+    ensures { result.now ≡ end_text end }
+{
+    match end {
+        LineEnd::Lf => b"\n",
+        LineEnd::CrLf => b"\r\n",
+    }
 }
 
 impl Report {
@@ -33,34 +75,75 @@ impl Report {
         }
     }
 
-    fn list(&mut self, cause: &[u8]) -> Result<(), OutOfMemory>
+    /// Begins a line of `err` on the line that was counted last.
+    fn list(&mut self, word: &[u8]) -> Result<(), OutOfMemory>
         ensures count { self.new.count ≡ self.old.count }
         ensures listed { self.new.is_partial ≡ true }
         ensures out { self.new.out ≡ self.old.out }
-        ensures err { OnOk result (self.new.err ≡ self.old.err ++ (cause.now ++ decimal self.old.count ++ 10 ∷ [])) }
+        ensures err { OnOk result (self.new.err ≡ self.old.err ++ (word.now ++ decimal self.old.count)) }
     {
-        let mut buffer = Buffer::new();
         self.is_partial = true;
-        self.err.extend(cause)?;
-        self.err.extend(buffer.format(self.count).as_bytes())?;
+        self.err.extend(word)?;
+        push_number(self.count, &mut self.err)
+    }
+
+    /// Lists the line that was counted last.
+    fn list_line(&mut self, word: &[u8]) -> Result<(), OutOfMemory>
+        ensures count { self.new.count ≡ self.old.count }
+        ensures listed { self.new.is_partial ≡ true }
+        ensures out { self.new.out ≡ self.old.out }
+        ensures err { OnOk result (self.new.err ≡ self.old.err ++ listed_line word.now self.old.count []) }
+    {
+        self.list(word)?;
         self.err.push(b'\n')
     }
 
-    /// Adds what was found of the next line.
-    pub fn add(&mut self, verdict: &Verdict) -> Result<(), OutOfMemory>
-        requires { self.old.count < MOST_BYTES }
-        ensures reports { OnOk result (Reports self.old self.new (verdict.now ∷ [])) }
-        ensures count { self.new.count ≡ self.old.count + 1 }
+    /// Lists the line that was counted last as a bad one.
+    fn list_bad(&mut self, bad: &BadRecord) -> Result<(), OutOfMemory>
+        ensures count { self.new.count ≡ self.old.count }
+        ensures listed { self.new.is_partial ≡ true }
+        ensures out { self.new.out ≡ self.old.out }
+        ensures err { OnOk result (self.new.err ≡ self.old.err ++ finding_err self.old.count (finding.Bad bad.now)) }
     {
-        self.count += 1;
-        match verdict {
-            Verdict::Note => Ok(()),
-            Verdict::Read(record) => {
+        self.list(b"bad ")?;
+        push_bad(bad, &mut self.err)?;
+        self.err.push(b'\n')
+    }
+
+    /// Adds what was found of the line that was counted last.
+    fn add_finding(&mut self, format: &Format, found: &Finding) -> Result<(), OutOfMemory>
+        requires { IsOfFormat format.now (verdict.Found found.now) }
+        ensures count { self.new.count ≡ self.old.count }
+        ensures listed { OnOk result (self.new.is_partial ≡ (self.old.is_partial || is_listed (verdict.Found found.now))) }
+        ensures out { OnOk result (self.new.out ≡ self.old.out ++ finding_text format.now found.now) }
+        ensures err { OnOk result (self.new.err ≡ self.old.err ++ finding_err self.old.count found.now) }
+    {
+        match found {
+            Finding::Read(record) => {
                 write_record(record, &mut self.out)?;
                 self.out.push(b'\n')
             }
-            Verdict::Unread => self.list(b"unread "),
-            Verdict::Long => self.list(b"long "),
+            Finding::Unread => self.list_line(b"unread "),
+            Finding::Written(record) => {
+                format.write_line(record, &mut self.out)?;
+                self.out.extend(end_of(format.end()))
+            }
+            Finding::Bad(bad) => self.list_bad(bad),
+        }
+    }
+
+    /// Adds what is said of the next line.
+    pub fn add(&mut self, job: &Job, said: &Verdict) -> Result<(), OutOfMemory>
+        requires count { self.old.count < MOST_BYTES }
+        requires record { IsOfFormat job.now.format said.now }
+        ensures reports { OnOk result (Reports job.now self.old self.new (said.now ∷ [])) }
+        ensures count { self.new.count ≡ self.old.count + 1 }
+    {
+        self.count += 1;
+        match said {
+            Verdict::Note => Ok(()),
+            Verdict::Long => self.list_line(b"long "),
+            Verdict::Found(found) => self.add_finding(&job.format, found),
         }
     }
 }

@@ -1,14 +1,18 @@
 ghost use Rattle.std.specs.Prelude.{◌≡◌, ◌≤◌};
 ghost use Rattle.lf_io.specs.Faults.{Rose};
 ghost use Rattle.lf_io.specs.Moves.{Gets};
-ghost use Rattle.lf_app.specs.Commands.{Command, IsCommand, TakesInput};
+ghost use Rattle.lf_app.specs.declared.commands.Command.{Command as OneCommand};
+ghost use Rattle.lf_app.specs.Commands.{IsCommand, TakesInput};
+ghost use Rattle.lf_app.specs.Progress.{IsReady};
+ghost use Rattle.lf_app.specs.Promise.{Runs, Tells};
 ghost use Rattle.lf_app.specs.Run.{IsSettled, IsCutStream, IsSinkFault, IsNoMemory, IsComplete};
 
-use crate::commands::read_command;
+use crate::commands::{Command, read_command};
 use crate::gate::Gate;
-use crate::passes::read_lines;
-use crate::refusals::refuse;
+use crate::passes::work_lines;
+use crate::showing::{refusal_text, show_text};
 use crate::status::Status;
+use crate::telling::tell;
 use lf_core::{OutOfMemory, Str};
 use lf_io::{Sink, Source};
 use std::alloc::Global;
@@ -25,35 +29,61 @@ pub fn run<R: Threads + Sync, S: Source, O: Sink, E: Sink, G: Gate + Sync>(
     _gate: &G,
 ) -> Status
     // At a final status, status and texts are the command's outcome on the input, and the input is at its end.
-    ensures settled { (c : Command) → IsCommand words.now c
+    ensures settled { (c : OneCommand) → IsCommand words.now c
         → IsSettled c result.0 (S.left input.old) (S.left input.new) (Gets (O.got out.old) (O.got out.new)) (Gets (E.got err.old) (E.got err.new)) }
 
     // A command that takes no input leaves it as it was.
-    ensures untouched { (c : Command) → IsCommand words.now c → (TakesInput c → ⊥) → input.new ≡ input.old }
+    ensures untouched { (c : OneCommand) → IsCommand words.now c → (TakesInput c → ⊥) → input.new ≡ input.old }
 
     // A stream is cut only by a fault of the source or at its greatest length, and then its whole lines are written.
-    ensures cut_stream { (c : Command) → IsCommand words.now c
+    ensures cut_stream { (c : OneCommand) → IsCommand words.now c
         → IsCutStream c result.0 (S.left input.old) (S.left input.new) (S.faults input.old) (S.faults input.new) (Gets (O.got out.old) (O.got out.new)) (Gets (E.got err.old) (E.got err.new)) }
 
     // A sink's fault is told only where one came, and fronts of the outcome's texts are written.
-    ensures sink_fault { (c : Command) → IsCommand words.now c
+    ensures sink_fault { (c : OneCommand) → IsCommand words.now c
         → IsSinkFault c result.0 (S.left input.old) (O.faults out.old) (O.faults out.new) (E.faults err.old) (E.faults err.new) (Gets (O.got out.old) (O.got out.new)) (Gets (E.got err.old) (E.got err.new)) }
 
     // For want of memory fronts of the outcome's texts are written.
-    ensures no_memory { (c : Command) → IsCommand words.now c
+    ensures no_memory { (c : OneCommand) → IsCommand words.now c
         → IsNoMemory c result.0 (S.left input.old) (Gets (O.got out.old) (O.got out.new)) (Gets (E.got err.old) (E.got err.new)) }
 
     // Where no fault came, the status is the outcome's, unless memory runs out.
     ensures complete { (Rose (S.faults input.old) (S.faults input.new) → ⊥) → (Rose (O.faults out.old) (O.faults out.new) → ⊥) → (Rose (E.faults err.old) (E.faults err.new) → ⊥)
-        → (c : Command) → IsCommand words.now c → IsComplete c result.0 (S.left input.old) }
+        → (c : OneCommand) → IsCommand words.now c → IsComplete c result.0 (S.left input.old) }
 
     // No other status comes.
     ensures status { result.0 ≤ 8 }
 {
     lf_format::laws::separated_is_readable();
+    apache_front::one_answer();
     match read_command(alloc, words) {
-        Ok(Some(format)) => read_lines(alloc, &format, input, out, err),
-        Ok(None) => refuse(err),
+        Ok(command) => answer(alloc, &command, input, out, err),
         Err(OutOfMemory) => Status(6),
+    }
+}
+
+/// Does what a command line asks for.
+fn answer<S: Source, O: Sink, E: Sink>(
+    alloc: Global,
+    command: &Command,
+    input: &mut S,
+    out: &mut O,
+    err: &mut E,
+) -> Status
+    requires { IsReady command.now }
+    ensures runs { Runs command.now result.0 (S.left input.old) (S.left input.new) (Gets (O.got out.old) (O.got out.new)) (Gets (E.got err.old) (E.got err.new)) }
+    ensures tells { Tells result.0 (S.faults input.old) (S.faults input.new) (O.faults out.old) (O.faults out.new) (E.faults err.old) (E.faults err.new) }
+    ensures untouched { (TakesInput command.now → ⊥) → input.new ≡ input.old }
+{
+    match command {
+        Command::Lines(job) => work_lines(alloc, job, input, out, err),
+        Command::Show(format) => match show_text(alloc, format) {
+            Ok(text) => tell(out, text.as_slice(), 0),
+            Err(OutOfMemory) => Status(6),
+        },
+        Command::Refuse(refusal) => match refusal_text(alloc, *refusal) {
+            Ok(text) => tell(err, text.as_slice(), 2),
+            Err(OutOfMemory) => Status(6),
+        },
     }
 }

@@ -10,6 +10,66 @@ pub struct Class {
 }
 
 impl Class {
+    /// Every byte.
+    pub const ANY: Class = Class {
+        low: 0xffff_ffff_ffff_ffff_ffff_ffff_ffff_ffff,
+        high: 0xffff_ffff_ffff_ffff_ffff_ffff_ffff_ffff,
+    };
+
+    /// The bytes of a header: a tab, 0x20 to 0x7E and 0x80 to 0xFF.
+    pub const HEADER: Class = Class {
+        low: 0x7fff_ffff_ffff_ffff_ffff_ffff_0000_0200,
+        high: 0xffff_ffff_ffff_ffff_ffff_ffff_ffff_ffff,
+    };
+
+    /// The visible bytes of ASCII, 0x21 to 0x7E.
+    pub const VISIBLE: Class = Class {
+        low: 0x7fff_ffff_ffff_ffff_ffff_fffe_0000_0000,
+        high: 0,
+    };
+
+    /// 0x21 to 0x7E and 0x80 to 0xFF.
+    pub const WORD: Class = Class {
+        low: 0x7fff_ffff_ffff_ffff_ffff_fffe_0000_0000,
+        high: 0xffff_ffff_ffff_ffff_ffff_ffff_ffff_ffff,
+    };
+
+    /// 0x20 to 0x7E and 0x80 to 0xFF.
+    pub const SPACED: Class = Class {
+        low: 0x7fff_ffff_ffff_ffff_ffff_ffff_0000_0000,
+        high: 0xffff_ffff_ffff_ffff_ffff_ffff_ffff_ffff,
+    };
+
+    /// Every byte but the space.
+    pub const NO_SPACE: Class = Class {
+        low: 0xffff_ffff_ffff_ffff_ffff_fffe_ffff_ffff,
+        high: 0xffff_ffff_ffff_ffff_ffff_ffff_ffff_ffff,
+    };
+
+    /// 0x21 to 0x7E without `+`, and 0x80 to 0xFF.
+    pub const IIS_WORD: Class = Class {
+        low: 0x7fff_ffff_ffff_ffff_ffff_f7fe_0000_0000,
+        high: 0xffff_ffff_ffff_ffff_ffff_ffff_ffff_ffff,
+    };
+
+    /// ASCII letters and digits, `-`, `_`, `.`, `:`, `~`, `<` and `>`.
+    pub const PROXY: Class = Class {
+        low: 0x47ff_fffe_87ff_fffe_57ff_6000_0000_0000,
+        high: 0,
+    };
+
+    /// Digits and `+`.
+    pub const COUNTS: Class = Class {
+        low: 0x0000_0000_0000_0000_03ff_0800_0000_0000,
+        high: 0,
+    };
+
+    /// Digits and `.`.
+    pub const DECIMAL: Class = Class {
+        low: 0x0000_0000_0000_0000_03ff_4000_0000_0000,
+        high: 0,
+    };
+
     /// The bytes from the first to the last, and none where the first is above the last.
     pub fn of(first: u8, last: u8) -> Class
         ensures { (b : ℕ) → b < 256 → is_member result b ≡ (leb first b && leb b last) }

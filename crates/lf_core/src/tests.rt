@@ -139,7 +139,9 @@ fn runs_and_texts_keep_what_they_are_given(rt: HostRuntime) -> Result<(), Fail> 
     run.push(Move { mark: 1, to: 2 }).ok().ok_or("memory")?;
     assert_eq!(rt; run.as_slice(), [Move { mark: 1, to: 2 }].as_slice());
     let text = Str::of(rt.alloc(), "héllo").ok().ok_or("memory")?;
+    let copy = text.copy().ok().ok_or("memory")?;
     assert_eq!(rt; text.as_str(), "héllo");
+    assert_eq!(rt; copy.as_str(), "héllo");
     Ok(())
 }
 
@@ -154,5 +156,25 @@ fn types_are_shared_by_threads(rt: HostRuntime) -> Result<(), Fail> {
     let text = Str::of(rt.alloc(), "a").ok().ok_or("memory")?;
     shared(&text);
     shared(&OutOfMemory);
+    Ok(())
+}
+
+#[test]
+fn named_classes_have_their_bytes(rt: HostRuntime) -> Result<(), Fail> {
+    assert!(rt; has_just(Class::ANY, |_b| true));
+    assert!(rt; has_just(Class::HEADER, |b| b == 9 || (0x20 <= b && b != 0x7f)));
+    assert!(rt; has_just(Class::VISIBLE, |b| 0x21 <= b && b <= 0x7e));
+    assert!(rt; has_just(Class::WORD, |b| 0x21 <= b && b != 0x7f));
+    assert!(rt; has_just(Class::SPACED, |b| 0x20 <= b && b != 0x7f));
+    assert!(rt; has_just(Class::NO_SPACE, |b| b != b' '));
+    assert!(rt; has_just(Class::IIS_WORD, |b| 0x21 <= b && b != 0x7f && b != b'+'));
+    assert!(rt;
+        has_just(
+            Class::PROXY,
+            |b| b.is_ascii_alphanumeric() || b"-_.:~<>".contains(&b)
+        )
+    );
+    assert!(rt; has_just(Class::COUNTS, |b| b.is_ascii_digit() || b == b'+'));
+    assert!(rt; has_just(Class::DECIMAL, |b| b.is_ascii_digit() || b == b'.'));
     Ok(())
 }

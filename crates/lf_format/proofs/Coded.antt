@@ -82,14 +82,14 @@ number-in_set (negsuc n) = decimal-in_set-within (suc n) (suc n) (omega arith)
 
 -- the letters that a text of the kind is coded from, if it is one
 abbrev pub letters_of : Kind → List ℕ → Option (List ℕ)
-letters_of (kind.Num range) text = Some text
 letters_of (kind.Text set) text = unescape_from false text
+letters_of k text = Some text
 
 -- the coded text of a value in a plain kind
 abbrev pub coded_in : Coding → Kind → Value → List ℕ
 coded_in code k v = coded (coding_word code) (plain_text k v)
 
-raw-coded : (code : Coding) (letters : List ℕ) → code ≡ coding.Raw → coded (coding_word code) letters ≡ letters
+pub raw-coded : (code : Coding) (letters : List ℕ) → code ≡ coding.Raw → coded (coding_word code) letters ≡ letters
 raw-coded code letters e = ap (λ (c : Coding). coded (coding_word c) letters) e ∙ coded-raw letters
 
 apache-coded : (code : Coding) (letters : List ℕ) → code ≡ coding.ApacheHex → list_all is_visible letters ≡ true → coded (coding_word code) letters ≡ flat_map escaped letters
@@ -102,6 +102,7 @@ coded-in_set (kind.Text set) code (Text t) p h =
     let seen = all-visible set.class p.1 t h.0 in
     rw (apache-coded code t p.0 seen) (escaped-in_set t seen)
 coded-in_set (kind.Text set) code v p h = absurd h
+coded-in_set k code v p h = absurd p
 
 pub letters-coded : (k : Kind) (code : Coding) (v : Value) → IsPlainKind k code → HoldsKind k v → letters_of k (coded_in code k v) ≡ Some (plain_text k v)
 letters-coded (kind.Num range) code (Num n) p h = ap Some (raw-coded code (number_text n) p)
@@ -110,6 +111,7 @@ letters-coded (kind.Text set) code (Text t) p h =
     let seen = all-visible set.class p.1 t h.0 in
     ap (unescape_from false) (apache-coded code t p.0 seen) ∙ unescape_escaped t
 letters-coded (kind.Text set) code v p h = absurd h
+letters-coded k code v p h = absurd p
 
 pub coded-letters : (k : Kind) (code : Coding) (v : Value) (text : List ℕ) → IsPlainKind k code → HoldsKind k v → letters_of k text ≡ Some (plain_text k v) → coded_in code k v ≡ text
 coded-letters (kind.Num range) code (Num n) text p h e =
@@ -120,12 +122,13 @@ coded-letters (kind.Text set) code (Text t) text p h e =
     let seen = all-visible set.class p.1 t h.0 in
     apache-coded code t p.0 seen ∙ escaped_unescape false text t e
 coded-letters (kind.Text set) code v text p h e = absurd h
+coded-letters k code v text p h e = absurd p
 
 -- a dash and the empty text are the coded texts of themselves alone
 pub letters-dash : (k : Kind) → letters_of k (45 ∷ []) ≡ Some (45 ∷ [])
-letters-dash (kind.Num range) = refl
 letters-dash (kind.Text set) = refl
+letters-dash k = refl
 
 pub letters-none : (k : Kind) → letters_of k [] ≡ Some []
-letters-none (kind.Num range) = refl
 letters-none (kind.Text set) = refl
+letters-none k = refl

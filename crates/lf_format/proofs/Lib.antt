@@ -5,3 +5,17 @@ pub mod SlotLaws
 pub mod ByLetters
 pub mod LineLaws
 pub mod ScanLaws
+pub mod PlainTexts
+pub mod SomeTexts
+pub mod SomeValues
+pub mod Adding
+pub mod CodedValues
+pub mod Deciding
+pub mod Joining
+pub mod Steps
+pub mod OneAnswer
+pub mod KeepsLaws
+pub mod TextCuts
+pub mod SlotKeeps
+pub mod SameKinds
+pub mod RunCuts

@@ -29,15 +29,20 @@ missing-cases Missing = inl refl
 missing-cases v = inr tt
 
 pub held-present : (k : Kind) (v : Value) → HoldsKind k v → IsPresent v
-held-present (kind.Num range) Missing h = h
-held-present (kind.Text set) Missing h = h
+held-present (kind.Num d) Missing h = h
+held-present (kind.DashZero d) Missing h = h
+held-present (kind.Fixed3 d) Missing h = h
+held-present (kind.Padded d) Missing h = h
+held-present (kind.Words d) Missing h = h
+held-present (kind.Text d) Missing h = h
+held-present (kind.Query d) Missing h = h
 held-present k v h = tt
 
 holds-parts : (slot : Slot) (v : Value) → IsPresent v → Holds slot v → HoldsKind slot.kind v × IsNotAbsence slot.absent slot.quoted (plain_text slot.kind v)
 holds-parts slot Missing p h = absurd p
 holds-parts slot v p h = h
 
-parts-hold : (slot : Slot) (v : Value) → IsPresent v → HoldsKind slot.kind v → IsNotAbsence slot.absent slot.quoted (plain_text slot.kind v) → Holds slot v
+pub parts-hold : (slot : Slot) (v : Value) → IsPresent v → HoldsKind slot.kind v → IsNotAbsence slot.absent slot.quoted (plain_text slot.kind v) → Holds slot v
 parts-hold slot Missing p h n = absurd p
 parts-hold slot v p h n = (h, n)
 
@@ -171,7 +176,7 @@ slot-injective slot text v w plain r s = elim (missing-cases v) [
 
 dash-in_set : (k : Kind) → list_all (in_byte_set k) (45 ∷ []) ≡ true
 dash-in_set (kind.Num range) = refl
-dash-in_set (kind.Text set) = refl
+dash-in_set k = refl
 
 absence-in_set : (a : Absent) (k : Kind) → list_all (in_byte_set k) (missing_text a false) ≡ true
 absence-in_set absent.No k = refl

@@ -6,3 +6,13 @@ pub mod Lines
 pub mod Separated
 pub mod Reading
 pub mod Absence
+pub mod Keeps
+pub mod CommonKinds
+pub mod Cuts
+pub mod Pieces
+pub mod Items
+pub mod Fronts
+pub mod Spelling
+pub mod Building
+pub mod Runs
+pub mod Size

@@ -17,12 +17,13 @@ is_visible b = leb 33 b && leb b 126
 -- the bytes that a slot's texts are made of: digits and a dash, or visible ASCII
 abbrev pub in_byte_set : Kind → ℕ → Bool
 in_byte_set (kind.Num range) b = (leb 48 b && leb b 57) || b == 45
-in_byte_set (kind.Text set) b = is_visible b
+in_byte_set k b = is_visible b
 
--- Numbers stand as they are, and texts are of visible ASCII in Apache's escapes.
+-- Numbers stand as they are, and texts are of visible ASCII in Apache's escapes; no other kind is plain.
 abbrev pub IsPlainKind : Kind → Coding → Type 0
 IsPlainKind (kind.Num range) code = code ≡ coding.Raw
 IsPlainKind (kind.Text set) code = (code ≡ coding.ApacheHex) × ((b : ℕ) → is_letter set.class b ≡ true → is_visible b ≡ true)
+IsPlainKind k code = ⊥
 
 -- Without quotes, and with one text for a value or for absence.
 pub record IsPlainSlot (slot : OneSlot) : Type 0 where

@@ -5,6 +5,7 @@ use Rattle.lf_core.specs.declared.values.Value.TheVariants.{Missing}
 use Rattle.lf_escape.specs.Codes.{coded}
 use Rattle.lf_format.specs.Kinds.{HoldsKind, plain_text}
 use Rattle.lf_format.specs.Codings.{coding_word}
+use Rattle.lf_format.specs.declared.kind.Kind.{Kind}
 use Rattle.lf_format.specs.declared.slot.Slot.{Slot}
 use Rattle.lf_format.specs.declared.slot.Absent.{Absent}
 use Rattle.lf_format.specs.declared.slot.Absent.TheVariants.{No, Dash, DashTwo, Blank}
@@ -23,10 +24,18 @@ IsNotAbsence Dash quoted plain = cond quoted (Unit {0}) (plain ≢ 45 ∷ [])
 IsNotAbsence DashTwo quoted plain = Unit {0}
 IsNotAbsence Blank quoted plain = plain ≢ []
 
+-- The domain holds some value that isn't taken for absence.
+abbrev pub HasPresent : Kind → Absent → Bool → Type 0
+HasPresent k absent quoted = (v : Value) × HoldsKind k v × IsNotAbsence absent quoted (plain_text k v)
+
+-- The slot's domain holds the value, and the value isn't taken for absence.
+abbrev pub HoldsPresent : Slot → Value → Type 0
+HoldsPresent slot v = HoldsKind slot.kind v × IsNotAbsence slot.absent slot.quoted (plain_text slot.kind v)
+
 -- The slot holds the value.
 abbrev pub Holds : Slot → Value → Type 0
 Holds slot Missing = holds_missing slot.absent slot.present ≡ true
-Holds slot v = HoldsKind slot.kind v × IsNotAbsence slot.absent slot.quoted (plain_text slot.kind v)
+Holds slot v = HoldsPresent slot v
 
 -- the words of the plain text's letters under the slot's code, joined
 abbrev pub coded_text : Slot → Value → List ℕ

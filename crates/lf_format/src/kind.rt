@@ -1,8 +1,10 @@
-ghost use Rattle.std.specs.Prelude.{◌≡◌, ℕ, List};
+ghost use Rattle.std.specs.Prelude.{◌≡◌, ◌≤◌, ◌≤ℤ◌, ℕ, pos, List, IfOk};
 ghost use Rattle.lf_core.specs.declared.values.Value.{Value};
+ghost use Rattle.lf_format.specs.Kinds.{value_kind};
+ghost use Rattle.lf_format.specs.CommonKinds.{texts as texts_of, dashed as dashed_of};
 
-use lf_core::{Bytes, Domain, OutOfMemory, Value};
-use lf_domain::{NumRange, TextSet};
+use lf_core::{Bytes, Class, Domain, OutOfMemory, Value};
+use lf_domain::{DashZero, Fixed3, NumRange, Padded, QueryText, TextSet, Words};
 use lf_escape::{
     ApacheHex, Code, Doubled, HaCapture, HaEscape, HaHash, NginxHex, NginxJson, PlusSpace, Raw,
     Word,
@@ -10,10 +12,74 @@ use lf_escape::{
 use std::alloc::Global;
 
 /// The domain of a slot's values.
-#[derive(Clone, Copy)]
+#[derive(Debug, Drop)]
 pub enum Kind {
     Num(NumRange),
+    DashZero(DashZero),
+    Fixed3(Fixed3),
+    Padded(Padded),
+    Words(Words),
     Text(TextSet),
+    Query(QueryText),
+}
+
+/// What sort of values a domain has, also where it holds none.
+#[derive(Clone, Copy, Debug, PartialEq, Eq)]
+pub enum ValueKind {
+    Number,
+    Text,
+    Moment,
+    Day,
+    Clock,
+}
+
+impl Kind {
+    /// The texts of `min` or more letters of the class.
+    pub fn texts(class: Class, min: u32) -> Kind
+        requires { min ≤ 99999 }
+        ensures { (fits : min ≤ 99999) → result ≡ texts_of class min fits }
+    {
+        Kind::Text(TextSet {
+            class,
+            min,
+            max: None,
+        })
+    }
+
+    /// The whole numbers from `lo` to `hi`, with zero as `-`.
+    pub fn dashed(lo: i64, hi: i64) -> Kind
+        requires { pos 0 ≤ℤ lo }
+        ensures { (not_negative : pos 0 ≤ℤ lo) → result ≡ dashed_of lo hi not_negative }
+    {
+        Kind::DashZero(DashZero { lo, hi })
+    }
+
+    /// What sort of values the domain has.
+    pub fn value_kind(&self) -> ValueKind
+        ensures { result ≡ value_kind self.now }
+    {
+        match self {
+            Kind::Num(_) | Kind::DashZero(_) | Kind::Fixed3(_) | Kind::Padded(_) => {
+                ValueKind::Number
+            }
+            Kind::Words(_) | Kind::Text(_) | Kind::Query(_) => ValueKind::Text,
+        }
+    }
+
+    /// An equal domain, on the same allocator.
+    pub fn copy(&self) -> Result<Kind, OutOfMemory>
+        ensures { IfOk result (λ copy. copy ≡ self.now) }
+    {
+        match self {
+            Kind::Num(d) => Ok(Kind::Num(*d)),
+            Kind::DashZero(d) => Ok(Kind::DashZero(*d)),
+            Kind::Fixed3(d) => Ok(Kind::Fixed3(*d)),
+            Kind::Padded(d) => Ok(Kind::Padded(*d)),
+            Kind::Words(d) => Ok(Kind::Words(d.copy()?)),
+            Kind::Text(d) => Ok(Kind::Text(*d)),
+            Kind::Query(d) => Ok(Kind::Query(*d)),
+        }
+    }
 }
 
 impl Domain for Kind {
@@ -31,50 +97,85 @@ impl Domain for Kind {
 
     fn check(&self, value: &Value) -> bool {
         match self {
-            Kind::Text(d) => d.check(value),
             Kind::Num(d) => d.check(value),
+            Kind::DashZero(d) => d.check(value),
+            Kind::Fixed3(d) => d.check(value),
+            Kind::Padded(d) => d.check(value),
+            Kind::Words(d) => d.check(value),
+            Kind::Text(d) => d.check(value),
+            Kind::Query(d) => d.check(value),
         }
     }
 
     fn write_plain(&self, value: &Value, into: &mut Bytes) -> Result<(), OutOfMemory> {
         match self {
-            Kind::Text(d) => d.write_plain(value, into),
             Kind::Num(d) => d.write_plain(value, into),
+            Kind::DashZero(d) => d.write_plain(value, into),
+            Kind::Fixed3(d) => d.write_plain(value, into),
+            Kind::Padded(d) => d.write_plain(value, into),
+            Kind::Words(d) => d.write_plain(value, into),
+            Kind::Text(d) => d.write_plain(value, into),
+            Kind::Query(d) => d.write_plain(value, into),
         }
     }
 
     fn read_plain(&self, alloc: Global, text: &[u8]) -> Result<Option<Value>, OutOfMemory> {
         match self {
-            Kind::Text(d) => d.read_plain(alloc, text),
             Kind::Num(d) => d.read_plain(alloc, text),
+            Kind::DashZero(d) => d.read_plain(alloc, text),
+            Kind::Fixed3(d) => d.read_plain(alloc, text),
+            Kind::Padded(d) => d.read_plain(alloc, text),
+            Kind::Words(d) => d.read_plain(alloc, text),
+            Kind::Text(d) => d.read_plain(alloc, text),
+            Kind::Query(d) => d.read_plain(alloc, text),
         }
     }
 
     fn points(&self) -> u32 {
         match self {
-            Kind::Text(d) => d.points(),
             Kind::Num(d) => d.points(),
+            Kind::DashZero(d) => d.points(),
+            Kind::Fixed3(d) => d.points(),
+            Kind::Padded(d) => d.points(),
+            Kind::Words(d) => d.points(),
+            Kind::Text(d) => d.points(),
+            Kind::Query(d) => d.points(),
         }
     }
 
     fn start(&self) -> u32 {
         match self {
-            Kind::Text(d) => d.start(),
             Kind::Num(d) => d.start(),
+            Kind::DashZero(d) => d.start(),
+            Kind::Fixed3(d) => d.start(),
+            Kind::Padded(d) => d.start(),
+            Kind::Words(d) => d.start(),
+            Kind::Text(d) => d.start(),
+            Kind::Query(d) => d.start(),
         }
     }
 
     fn step(&self, point: u32, letter: u8) -> Option<u32> {
         match self {
-            Kind::Text(d) => d.step(point, letter),
             Kind::Num(d) => d.step(point, letter),
+            Kind::DashZero(d) => d.step(point, letter),
+            Kind::Fixed3(d) => d.step(point, letter),
+            Kind::Padded(d) => d.step(point, letter),
+            Kind::Words(d) => d.step(point, letter),
+            Kind::Text(d) => d.step(point, letter),
+            Kind::Query(d) => d.step(point, letter),
         }
     }
 
     fn ends(&self, point: u32) -> bool {
         match self {
-            Kind::Text(d) => d.ends(point),
             Kind::Num(d) => d.ends(point),
+            Kind::DashZero(d) => d.ends(point),
+            Kind::Fixed3(d) => d.ends(point),
+            Kind::Padded(d) => d.ends(point),
+            Kind::Words(d) => d.ends(point),
+            Kind::Text(d) => d.ends(point),
+            Kind::Query(d) => d.ends(point),
         }
     }
 }

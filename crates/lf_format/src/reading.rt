@@ -84,6 +84,7 @@ fn read_present(alloc: Global, slot: &Slot, text: &[u8]) -> Result<Option<Value>
                 Ok(None)
             }
         }
+        _ => Ok(None),
     }
 }
 

@@ -13,7 +13,7 @@ pub(crate) fn is_in_byte_set(kind: &Kind, byte: u8) -> bool
 {
     match kind {
         Kind::Num(_) => (48 <= byte && byte <= 57) || byte == b'-',
-        Kind::Text(_) => 33 <= byte && byte <= 126,
+        _ => 33 <= byte && byte <= 126,
     }
 }
 
@@ -36,6 +36,7 @@ fn is_plain_kind(kind: &Kind, code: Coding) -> bool
     match kind {
         Kind::Num(_) => code == Coding::Raw,
         Kind::Text(set) => code == Coding::ApacheHex && is_visible_class(set.class),
+        _ => false,
     }
 }
 

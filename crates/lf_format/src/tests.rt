@@ -1,123 +1,184 @@
-use crate::{Absent, Coding, Format, Kind, LineEnd, Piece, Slot, scan, separated};
-use lf_core::{Bytes, Class, OutOfMemory, Record, Str, Value};
-use lf_domain::{NumRange, TextSet};
+ghost use Rattle.std.specs.Prelude.{◌≤◌, length};
+ghost use Rattle.std.specs.Option.{ForSome};
+
+use crate::{Absent, Coding, Kind, Slot, ValueKind};
+use lf_core::{Bytes, Class, OutOfMemory, Str, Value};
+use lf_domain::{DashZero, Fixed3, NumRange, Padded, QueryText, Radix, TextSet, WordList, Words};
 use std::alloc::Global;
 use std::test::Fail;
 
-fn text_slot(alloc: Global, absent: Absent) -> Result<Piece, OutOfMemory> {
-    Ok(Piece::Slot(Slot {
-        name: Str::of(alloc, "%h")?,
-        kind: Kind::Text(TextSet {
-            class: Class::of(0x21, 0x7e),
-            min: 1,
-            max: None,
-        }),
-        code: Coding::ApacheHex,
+fn slot_of(alloc: Global, kind: Kind, absent: Absent) -> Result<Slot, OutOfMemory> {
+    Ok(Slot {
+        name: Str::of(alloc, "%a")?,
+        kind,
+        code: Coding::Raw,
         absent,
         present: false,
         quoted: false,
-    }))
+    })
 }
 
-fn number_slot(alloc: Global) -> Result<Piece, OutOfMemory> {
-    Ok(Piece::Slot(Slot {
-        name: Str::of(alloc, "%s")?,
-        kind: Kind::Num(NumRange { lo: 100, hi: 999 }),
-        code: Coding::Raw,
-        absent: Absent::Dash,
-        present: false,
-        quoted: false,
-    }))
+fn texts(class: Class, min: u32, max: Option<u32>) -> Kind
+    requires least { min ≤ 9 }
+    requires most { ForSome max (λ most. most ≤ 9) }
+{
+    Kind::Text(TextSet { class, min, max })
 }
 
-fn space(alloc: Global) -> Result<Piece, OutOfMemory> {
+fn one_word(alloc: Global, word: &[u8]) -> Result<Kind, OutOfMemory>
+    requires { length word.now ≤ 9 }
+{
+    let mut list = WordList::new(alloc);
+    list.push(word)?;
+    Ok(Kind::Words(Words { list }))
+}
+
+fn holds_text(alloc: Global, slot: &Slot, letters: &[u8]) -> Result<bool, OutOfMemory> {
     let mut text = Bytes::new(alloc);
-    text.push(b' ')?;
-    Ok(Piece::Literal(text))
-}
-
-/// A text, a space and a number.
-fn pair(alloc: Global, absent: Absent) -> Result<Format, OutOfMemory> {
-    let mut pieces = Vec::new(alloc);
-    pieces.push(text_slot(alloc, absent)?)?;
-    pieces.push(space(alloc)?)?;
-    pieces.push(number_slot(alloc)?)?;
-    Ok(Format::new(pieces, LineEnd::Lf, false))
-}
-
-/// Whether the record has a text, or none for an absent one, and a number, or none.
-fn is_pair(rec: &Record, text: Option<&[u8]>, number: Option<i64>) -> bool {
-    let [first, second] = rec.as_slice() else {
-        return false;
-    };
-    let has_text = match first {
-        Value::Text(found) => text.is_some_and(|wanted| found.as_slice() == wanted),
-        Value::Missing => text.is_none(),
-        _ => false,
-    };
-    let has_number = match second {
-        Value::Num(found) => number == Some(*found),
-        Value::Missing => number.is_none(),
-        _ => false,
-    };
-    has_text && has_number
+    text.extend(letters)?;
+    Ok(slot.holds(&Value::Text(text)))
 }
 
 #[test]
-fn lines_are_read(rt: HostRuntime) -> Result<(), Fail> {
-    let format = pair(rt.alloc(), Absent::Dash).ok().ok_or("memory")?;
-    let rows: [(&[u8], Option<&[u8]>, Option<i64>); 4] = [
-        (b"a 200", Some(b"a"), Some(200)),
-        (b"- 999", None, Some(999)),
-        (b"a\\\"\\\\b -", Some(b"a\"\\b"), None),
-        (b"-- 100", Some(b"--"), Some(100)),
+fn a_dash_is_absence_or_a_text(rt: HostRuntime) -> Result<(), Fail> {
+    let rows: [(Absent, bool, bool, bool, bool); 6] = [
+        (Absent::No, false, false, false, true),
+        (Absent::Dash, false, false, true, false),
+        (Absent::Dash, false, true, true, true),
+        (Absent::Dash, true, false, false, false),
+        (Absent::DashTwo, false, false, true, true),
+        (Absent::Blank, false, false, true, true),
     ];
-    if !separated(&format) {
-        return Err("not separated".into());
-    }
-    for (line, text, number) in rows {
-        let found = scan(rt.alloc(), &format, line).ok().ok_or("memory")?;
-        let rec = found.ok_or("unread")?;
-        assert!(rt; is_pair(&rec, text, number));
+    for (absent, present, quoted, missing, dash) in rows {
+        let mut slot = slot_of(rt.alloc(), texts(Class::VISIBLE, 1, None), absent)
+            .ok()
+            .ok_or("memory")?;
+        slot.present = present;
+        slot.quoted = quoted;
+        let holds_dash = holds_text(rt.alloc(), &slot, b"-").ok().ok_or("memory")?;
+        let holds_letter = holds_text(rt.alloc(), &slot, b"a").ok().ok_or("memory")?;
+        let holds_space = holds_text(rt.alloc(), &slot, b" ").ok().ok_or("memory")?;
+        assert_eq!(rt; slot.holds(&Value::Missing), missing);
+        assert_eq!(rt; holds_dash, dash);
+        assert!(rt; holds_letter && !holds_space);
+        assert!(rt; !slot.holds(&Value::Num(1)));
     }
     Ok(())
 }
 
 #[test]
-fn other_lines_are_unread(rt: HostRuntime) -> Result<(), Fail> {
-    let format = pair(rt.alloc(), Absent::Dash).ok().ok_or("memory")?;
-    if !separated(&format) {
-        return Err("not separated".into());
-    }
-    let rows: [&[u8]; 8] = [
-        b"",
-        b"a",
-        b"a ",
-        b"a 099",
-        b"a 1000",
-        b"a\" 200",
-        b"a\\x41 200",
-        b"a 200 ",
+fn nothing_is_absence_under_blank(rt: HostRuntime) -> Result<(), Fail> {
+    let rows: [(Absent, bool, bool); 4] = [
+        (Absent::Blank, false, false),
+        (Absent::Blank, true, false),
+        (Absent::Dash, false, true),
+        (Absent::No, false, true),
     ];
-    for line in rows {
-        let found = scan(rt.alloc(), &format, line).ok().ok_or("memory")?;
-        assert!(rt; found.is_none());
+    for (absent, quoted, holds) in rows {
+        let mut slot = slot_of(rt.alloc(), texts(Class::ANY, 0, None), absent)
+            .ok()
+            .ok_or("memory")?;
+        slot.quoted = quoted;
+        let held = holds_text(rt.alloc(), &slot, b"").ok().ok_or("memory")?;
+        assert_eq!(rt; held, holds);
     }
     Ok(())
 }
 
 #[test]
-fn one_text_for_two_values_is_not_separated(rt: HostRuntime) -> Result<(), Fail> {
-    let format = pair(rt.alloc(), Absent::DashTwo).ok().ok_or("memory")?;
-    assert!(rt; !separated(&format));
+fn a_zero_that_is_printed_as_a_dash_is_absence(rt: HostRuntime) -> Result<(), Fail> {
+    for (absent, holds_zero) in [(Absent::No, true), (Absent::Dash, false)] {
+        let slot = slot_of(
+            rt.alloc(),
+            Kind::DashZero(DashZero { lo: 0, hi: 9 }),
+            absent,
+        )
+        .ok()
+        .ok_or("memory")?;
+        assert_eq!(rt; slot.holds(&Value::Num(0)), holds_zero);
+        assert!(rt; slot.holds(&Value::Num(9)) && !slot.holds(&Value::Num(10)));
+    }
+    Ok(())
+}
+
+/// Whether a slot of the domain that is never missing holds some value.
+fn has_value(alloc: Global, kind: Kind, absent: Absent) -> Result<bool, OutOfMemory> {
+    let mut slot = slot_of(alloc, kind, absent)?;
+    slot.present = true;
+    slot.holds_any()
+}
+
+#[test]
+fn some_slots_hold_no_value(rt: HostRuntime) -> Result<(), Fail> {
+    let dash = Class::of(b'-', b'-');
+    let rows: [(Kind, Absent, bool); 13] = [
+        (texts(dash, 1, Some(1)), Absent::Dash, false),
+        (texts(dash, 1, Some(1)), Absent::DashTwo, true),
+        (texts(dash, 1, Some(2)), Absent::Dash, true),
+        (texts(dash, 1, None), Absent::Dash, true),
+        (texts(Class::DECIMAL, 1, Some(1)), Absent::Dash, true),
+        (texts(Class::of(1, 0), 0, None), Absent::Dash, true),
+        (texts(Class::of(1, 0), 0, None), Absent::Blank, false),
+        (texts(dash, 2, Some(1)), Absent::No, false),
+        (Kind::Num(NumRange { lo: 2, hi: 1 }), Absent::No, false),
+        (
+            Kind::DashZero(DashZero { lo: 0, hi: 0 }),
+            Absent::Dash,
+            false,
+        ),
+        (
+            Kind::DashZero(DashZero { lo: 0, hi: 1 }),
+            Absent::Dash,
+            true,
+        ),
+        (Kind::Fixed3(Fixed3 { lo: 5, hi: 5 }), Absent::Blank, true),
+        (
+            Kind::Query(QueryText { class: Class::ANY }),
+            Absent::Blank,
+            true,
+        ),
+    ];
+    for (kind, absent, holds) in rows {
+        let found = has_value(rt.alloc(), kind, absent).ok().ok_or("memory")?;
+        assert_eq!(rt; found, holds);
+    }
+    let word = one_word(rt.alloc(), b"-").ok().ok_or("memory")?;
+    let found = has_value(rt.alloc(), word, Absent::Dash)
+        .ok()
+        .ok_or("memory")?;
+    assert!(rt; !found);
+    Ok(())
+}
+
+#[test]
+fn copies_are_equal(rt: HostRuntime) -> Result<(), Fail> {
+    let word = one_word(rt.alloc(), b"X").ok().ok_or("memory")?;
+    let slot = slot_of(rt.alloc(), word, Absent::Blank)
+        .ok()
+        .ok_or("memory")?;
+    let copy = slot.copy().ok().ok_or("memory")?;
+    let held = holds_text(rt.alloc(), &copy, b"X").ok().ok_or("memory")?;
+    assert!(rt; held && copy.name.as_str() == "%a" && copy.absent == Absent::Blank);
+    let padded = Kind::Padded(Padded {
+        radix: Radix::Sixteen,
+        width: 4,
+        lo: 0,
+        hi: 255,
+    });
+    let again = padded.copy().ok().ok_or("memory")?;
+    assert_eq!(rt; again.value_kind(), ValueKind::Number);
+    assert_eq!(rt; copy.kind.value_kind(), ValueKind::Text);
     Ok(())
 }
 
 fn shared<T: Send + Sync>(_value: &T) {}
 
 #[test]
-fn formats_are_shared_by_threads(rt: HostRuntime) -> Result<(), Fail> {
-    let format = pair(rt.alloc(), Absent::Blank).ok().ok_or("memory")?;
-    shared(&format);
+fn slots_are_shared_by_threads(rt: HostRuntime) -> Result<(), Fail> {
+    let slot = slot_of(rt.alloc(), texts(Class::ANY, 0, None), Absent::Blank)
+        .ok()
+        .ok_or("memory")?;
+    shared(&slot);
+    shared(&ValueKind::Clock);
     Ok(())
 }

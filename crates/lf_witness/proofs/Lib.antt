@@ -3,3 +3,10 @@ pub mod LineSteps
 pub mod Lists
 pub mod SameLines
 pub mod Beginnings
+pub mod Endings
+pub mod OpenLaws
+pub mod RunSteps
+pub mod SetLaws
+pub mod SecondLaws
+pub mod StepLaws
+pub mod HeadLaws

@@ -1,3 +1,9 @@
+pub mod Runs
+pub mod Sets
+pub mod Open
+pub mod Branch
+pub mod Steps
 pub mod Shared
+pub mod Heads
 pub mod Fork
 pub mod ForkLaws

@@ -1,10 +1,18 @@
-//! The least line on which two different whole runs stand.
+//! The least line on which two different whole runs stand, with the two least runs on it, and the least line that begins with a byte.
 #![tactic(auto)]
 
-mod least;
+mod heads;
+mod line;
 mod onward;
+mod points;
+mod runs;
+mod second;
+mod sets;
+mod steps;
+mod witness;
 
-pub use least::least_line;
+pub use heads::{Headed, least_from};
+pub use witness::{Witness, least};
 
 #[cfg(test)]
 mod tests;

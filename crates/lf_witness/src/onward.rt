@@ -94,7 +94,12 @@ fn add_pairs(
 }
 
 /// The moves from a point on a byte.
-fn moves_of<M: Marked>(alloc: Global, m: &M, point: u32, byte: u8) -> Result<Vec<Move>, OutOfMemory>
+pub(crate) fn moves_of<M: Marked>(
+    alloc: Global,
+    m: &M,
+    point: u32,
+    byte: u8,
+) -> Result<Vec<Move>, OutOfMemory>
     requires { point < (M.machine m.now).count }
     ensures { IfOk result (λ v. v.items ≡ (M.machine m.now).moves point byte) }
 {

@@ -2,7 +2,7 @@ ghost use Rattle.std.specs.Prelude.{◌≡◌, ◌<◌, [], OnOk, OnErr};
 ghost use Rattle.lf_witness.specs.Fork.{forked_moves, last_move};
 
 use super::*;
-use lf_core::{Bytes, Marked, Move, OutOfMemory};
+use lf_core::{Marked, Move, OutOfMemory, Run};
 use lf_product::distances;
 use smallvec::SmallVec;
 use std::alloc::Global;
@@ -76,27 +76,65 @@ impl Marked for Fork {
     ghost laws = { λ f. fork_lawful f.forked };
 }
 
-/// The least shared line of the small machine, where there is one.
-fn line_of(alloc: Global, fork: &Fork) -> Result<Option<Bytes>, OutOfMemory> {
+/// Whether the marks of the moves are these.
+fn has_marks(run: &Run, marks: &[u32]) -> bool {
+    if run.len() != marks.len() {
+        return false;
+    }
+    for i in 0..run.len() {
+        if run.get(i).mark != marks[i] {
+            return false;
+        }
+    }
+    true
+}
+
+/// The least witness of the small machine, where there is one.
+fn witness_of(alloc: Global, fork: &Fork) -> Result<Option<Witness>, OutOfMemory> {
     let pairs = distances(alloc, fork)?;
     if !pairs.ambiguous() {
         return Ok(None);
     }
-    Ok(Some(least_line(alloc, fork, &pairs)?))
+    Ok(Some(least(alloc, fork, &pairs)?))
 }
 
 #[test]
 fn forks_share_a_line(rt: HostRuntime) {
-    match line_of(rt.alloc(), &Fork { forked: true }) {
-        Ok(Some(line)) => assert!(rt; line.as_slice() == b"ab".as_slice()),
+    match witness_of(rt.alloc(), &Fork { forked: true }) {
+        Ok(Some(witness)) => {
+            assert!(rt; witness.line.as_slice() == b"ab".as_slice());
+            assert!(rt; has_marks(&witness.left, &[1, 0]), "the least run");
+            assert!(rt; has_marks(&witness.right, &[2, 0]), "the second");
+        }
         _ => assert!(rt; false, "no line"),
     }
 }
 
 #[test]
 fn one_way_shares_none(rt: HostRuntime) {
-    match line_of(rt.alloc(), &Fork { forked: false }) {
+    match witness_of(rt.alloc(), &Fork { forked: false }) {
         Ok(None) => {}
         _ => assert!(rt; false, "a line, or no memory"),
+    }
+}
+
+#[test]
+fn lines_begin_with_a_byte(rt: HostRuntime) {
+    match least_from(rt.alloc(), &Fork { forked: true }, b'a') {
+        Ok(Some(headed)) => {
+            assert!(rt; headed.line.as_slice() == b"ab".as_slice());
+            assert!(rt; has_marks(&headed.run, &[1, 0]), "the least run");
+        }
+        _ => assert!(rt; false, "no line"),
+    }
+}
+
+#[test]
+fn no_line_begins_with_a_byte(rt: HostRuntime) {
+    for byte in [b'b', b'x', 0] {
+        match least_from(rt.alloc(), &Fork { forked: true }, byte) {
+            Ok(None) => {}
+            _ => assert!(rt; false, "a line, or no memory"),
+        }
     }
 }

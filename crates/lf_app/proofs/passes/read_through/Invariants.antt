@@ -6,7 +6,7 @@ use Rattle.lf_app.proofs.passes.read_through.Given as goal
 
 abbrev pub invariant-loop-total : goal.invariant-loop-total
 invariant-loop-total g l =
-    Follows l.format l.kept l.report l.total (g.S.Source.left l.initial.input) (g.S.Source.left l.input) (Gets (g.O.Sink.got l.initial.out) (g.O.Sink.got l.out)) (Gets (g.E.Sink.got l.initial.err) (g.E.Sink.got l.err))
+    Follows l.job l.kept l.report l.total (g.S.Source.left l.initial.input) (g.S.Source.left l.input) (Gets (g.O.Sink.got l.initial.out) (g.O.Sink.got l.out)) (Gets (g.E.Sink.got l.initial.err) (g.E.Sink.got l.err))
     × (g.S.Source.faults l.initial.input ≤ g.S.Source.faults l.input)
     × (g.O.Sink.faults l.initial.out ≤ g.O.Sink.faults l.out)
     × (g.E.Sink.faults l.initial.err ≤ g.E.Sink.faults l.err)

@@ -7,7 +7,7 @@ use Rattle.lf_app.proofs.reading.feed.Given as goal
 abbrev pub invariant-loop-end : goal.invariant-loop-end
 invariant-loop-end l =
     (fed : List ℕ) × (l.piece ≡ fed ++ l.left)
-    × ((taken : List ℕ) (found : List Verdict) → HasRead l.format l.initial.kept taken found → Grows l.format l.kept l.initial.report l.report (taken ++ fed) found)
+    × ((taken : List ℕ) (found : List Verdict) → HasRead l.job l.initial.kept taken found → Grows l.job l.kept l.initial.report l.report (taken ++ fed) found)
     × (l.report.count + length l.left ≤ l.initial.report.count + length l.piece)
 
 abbrev pub decreases-loop-end : goal.decreases-loop-end

@@ -7,9 +7,9 @@ use Rattle.lf_format.specs.Reading.{unescape_from}
 use Rattle.lf_format.proofs.ByLetters.{on-ok, no-letters, by-letters, text-none}
 use Rattle.lf_format.proofs.reading.read_present.Goals as goal
 
-pub returns-in_default : goal.returns-in_default
-returns-in_default c =
-    let e : unescape_from false c.args.text.now ≡ None = sym c.in_ok-letters-in-Text.ensures ∙ c.in_default.is in
+pub returns-in_default-2 : goal.returns-in_default-2
+returns-in_default-2 c =
+    let e : unescape_from false c.args.text.now ≡ None = sym c.in_ok-letters-in-Text.ensures ∙ c.in_default-2.is in
     no-letters c.args.slot.now (kind.Text c.in-Text.set) c.args.text.now c.in-Text.is c.requires.kind e
 
 pub returns-in-Num : goal.returns-in-Num

@@ -13,7 +13,7 @@ loop-piece-preserved-in-Literal c =
     let l = c.loop-piece in
     let ps = c.args.format.now.pieces in
     let b = c.in-Literal.literal in
-    let here = piece-at ps c.pieces-piece-items.result.now l.piece-index c.piece-item.result (piece.Literal b) c.pieces-piece-items.ensures c.loop-piece-test.true c.piece-item.is c.in-Literal.is in
+    let here = piece-at ps c.pieces-piece-items.result.now l.piece-index c.piece-item.result (piece.Literal b) c.pieces-piece-items.ensures.pieces c.loop-piece-test.true c.piece-item.is c.in-Literal.is in
     let before = subst (λ (w : List Piece). Scans ps c.args.line.now w l.found l.rest.now) here l.invariant in
     scans-literal ps c.args.line.now b (drop (l.piece-index + 1) ps) l.found l.rest.now c.in-Some.after.now before (rw c.as_slice.ensures at c.in-Some.ensures)
 
@@ -26,7 +26,7 @@ returns-in_default-2 c =
     let ps = c.args.format.now.pieces in
     let t = c.in-Slot.slot in
     let n = c.run_len.result in
-    let here = piece-at ps c.pieces-piece-items.result.now l.piece-index c.piece-item.result (piece.Slot t) c.pieces-piece-items.ensures c.loop-piece-test.true c.piece-item.is c.in-Slot.is in
+    let here = piece-at ps c.pieces-piece-items.result.now l.piece-index c.piece-item.result (piece.Slot t) c.pieces-piece-items.ensures.pieces c.loop-piece-test.true c.piece-item.is c.in-Slot.is in
     let before = subst (λ (w : List Piece). Scans ps c.args.line.now w l.found l.rest.now) here l.invariant in
     let none = rw (c.in_default-2.is, c.split_at.ensures.front) at c.in_ok-value-in-Slot.ensures in
     none-slot ps c.args.line.now t (drop (l.piece-index + 1) ps) l.found l.rest.now n before c.run_len.ensures none
@@ -37,7 +37,7 @@ loop-piece-preserved c =
     let ps = c.args.format.now.pieces in
     let t = c.in-Slot.slot in
     let n = c.run_len.result in
-    let here = piece-at ps c.pieces-piece-items.result.now l.piece-index c.piece-item.result (piece.Slot t) c.pieces-piece-items.ensures c.loop-piece-test.true c.piece-item.is c.in-Slot.is in
+    let here = piece-at ps c.pieces-piece-items.result.now l.piece-index c.piece-item.result (piece.Slot t) c.pieces-piece-items.ensures.pieces c.loop-piece-test.true c.piece-item.is c.in-Slot.is in
     let before = subst (λ (w : List Piece). Scans ps c.args.line.now w l.found l.rest.now) here l.invariant in
     let read = rw (c.in-Some-2.is, c.split_at.ensures.front) at c.in_ok-value-in-Slot.ensures in
     let next = scans-slot ps c.args.line.now t (drop (l.piece-index + 1) ps) l.found c.push.new.self l.rest.now n c.in-Some-2.value before c.run_len.ensures read c.in_ok-push-in-Slot.ensures.ok in
@@ -47,5 +47,5 @@ pub returns-then-is_empty : goal.returns-then-is_empty
 returns-then-is_empty c =
     let l = c.loop-piece in
     let ps = c.args.format.now.pieces in
-    let done : drop l.piece-index ps ≡ [] = drop_all l.piece-index ps (omega (arith, ap length c.pieces-piece-items.ensures)) in
+    let done : drop l.piece-index ps ≡ [] = drop_all l.piece-index ps (omega (arith, ap length c.pieces-piece-items.ensures.pieces)) in
     scans-end ps c.args.line.now l.found l.rest.now (subst (λ (w : List Piece). Scans ps c.args.line.now w l.found l.rest.now) done l.invariant) (nil_from_length l.rest.now (eqb-true (length l.rest.now) 0 (sym c.is_empty.ensures ∙ c.if-is_empty.true)))

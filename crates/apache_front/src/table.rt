@@ -1,0 +1,144 @@
+//! What each letter stands for.
+
+ghost use Rattle.std.specs.Prelude.{◌≡◌, ◌==◌, ◌∷◌, [], not, codes, IfOk};
+ghost use Rattle.std.specs.List.{list_all};
+ghost use Rattle.std.specs.Option.{option_copied};
+ghost use Rattle.apache_front.specs.Table.{row_of, kind_of, takes, is_listed};
+
+use lf_core::{Class, OutOfMemory};
+use lf_domain::{NumRange, QueryText, WordList, Words};
+use lf_format::{Absent, Kind};
+use std::alloc::Global;
+
+/// The names that a letter takes.
+#[derive(Clone, Copy, Debug, PartialEq, Eq)]
+pub enum Names {
+    Never,
+    Always,
+    Client,
+    Port,
+    Process,
+    Unit,
+}
+
+/// What sort of values a letter stands for.
+#[derive(Clone, Copy, Debug, PartialEq, Eq)]
+pub enum Sort {
+    Visible,
+    Filled,
+    Free,
+    Query,
+    Count,
+    DashCount,
+    PortNumber,
+    Status,
+    Connection,
+}
+
+/// What a letter stands for.
+#[derive(Clone, Copy, Debug, PartialEq, Eq)]
+pub struct Row {
+    pub names: Names,
+    pub sort: Sort,
+    pub absent: Absent,
+}
+
+/// The row of a letter.
+pub fn find_row(letter: u8) -> Option<Row>
+    ensures { result ≡ row_of letter }
+{
+    let (names, sort, absent) = match letter {
+        b'a' | b'h' => (Names::Client, Sort::Visible, Absent::Dash),
+        b'A' | b'H' | b'l' | b'L' | b'm' | b'R' | b'v' | b'V' => {
+            (Names::Never, Sort::Visible, Absent::Dash)
+        }
+        b'f' | b'u' | b'U' => (Names::Never, Sort::Filled, Absent::Dash),
+        b'r' => (Names::Never, Sort::Free, Absent::Dash),
+        b'C' | b'e' | b'i' | b'n' | b'o' => (Names::Always, Sort::Free, Absent::Dash),
+        b'q' => (Names::Never, Sort::Query, Absent::No),
+        b'B' | b'D' | b'I' | b'k' | b'O' => (Names::Never, Sort::Count, Absent::No),
+        b'b' => (Names::Never, Sort::DashCount, Absent::No),
+        b'p' => (Names::Port, Sort::PortNumber, Absent::No),
+        b'P' => (Names::Process, Sort::Count, Absent::No),
+        b'T' => (Names::Unit, Sort::Count, Absent::No),
+        b's' => (Names::Never, Sort::Status, Absent::Dash),
+        b'X' => (Names::Never, Sort::Connection, Absent::No),
+        _ => return None,
+    };
+    Some(Row {
+        names,
+        sort,
+        absent,
+    })
+}
+
+/// The words for what becomes of a connection.
+fn connection_words(alloc: Global) -> Result<WordList, OutOfMemory>
+    ensures { IfOk result (λ list. list ≡ codes "X" ∷ codes "+" ∷ codes "-" ∷ []) }
+{
+    let mut list = WordList::new(alloc);
+    list.push(b"X")?;
+    list.push(b"+")?;
+    list.push(b"-")?;
+    Ok(list)
+}
+
+/// The kind that a sort of values is.
+pub fn kind_of(alloc: Global, sort: Sort) -> Result<Kind, OutOfMemory>
+    ensures { IfOk result (λ kind. kind ≡ kind_of sort) }
+{
+    match sort {
+        Sort::Visible => Ok(Kind::texts(Class::VISIBLE, 1)),
+        Sort::Filled => Ok(Kind::texts(Class::ANY, 1)),
+        Sort::Free => Ok(Kind::texts(Class::ANY, 0)),
+        Sort::Query => Ok(Kind::Query(QueryText { class: Class::ANY })),
+        Sort::Count => Ok(Kind::Num(NumRange {
+            lo: 0,
+            hi: i64::MAX,
+        })),
+        Sort::DashCount => Ok(Kind::dashed(0, i64::MAX)),
+        Sort::PortNumber => Ok(Kind::Num(NumRange { lo: 0, hi: 65535 })),
+        Sort::Status => Ok(Kind::Num(NumRange { lo: 100, hi: 999 })),
+        Sort::Connection => Ok(Kind::Words(Words {
+            list: connection_words(alloc)?,
+        })),
+    }
+}
+
+fn is_name(names: Names, name: &[u8]) -> bool
+    ensures { result ≡ is_listed names name.now }
+{
+    match names {
+        Names::Never => false,
+        Names::Always => true,
+        Names::Client => name == b"c".as_slice(),
+        Names::Port => {
+            name == b"canonical".as_slice()
+                || name == b"local".as_slice()
+                || name == b"remote".as_slice()
+        }
+        Names::Process => name == b"pid".as_slice() || name == b"tid".as_slice(),
+        Names::Unit => {
+            name == b"s".as_slice() || name == b"ms".as_slice() || name == b"us".as_slice()
+        }
+    }
+}
+
+fn is_one_line(name: &[u8]) -> bool
+    ensures { result ≡ list_all (λ c. not (c == 10)) name.now }
+{
+    name.iter().all(|b| *b != b'\n')
+}
+
+/// Whether a letter takes the name, or takes none.
+pub fn can_take(names: Names, name: Option<&[u8]>) -> bool
+    ensures { result ≡ takes names (option_copied name.entry) }
+{
+    let Some(name) = name else {
+        return names != Names::Always;
+    };
+    if name.is_empty() {
+        return false;
+    }
+    is_one_line(name) && is_name(names, name)
+}

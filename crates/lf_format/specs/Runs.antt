@@ -1,0 +1,12 @@
+-- The longest run of bytes at the front of a text, and what follows it.
+use Rattle.std.specs.Prelude.{ℕ, Bool, List, [], ◌∷◌, if◌then◌else◌}
+
+-- the longest run of bytes that pass the test
+abbrev pub run : (ℕ → Bool) → List ℕ → List ℕ
+run p [] = []
+run p (b ∷ text) = if p b then b ∷ run p text else []
+
+-- what follows that run
+abbrev pub past : (ℕ → Bool) → List ℕ → List ℕ
+past p [] = []
+past p (b ∷ text) = if p b then past p text else b ∷ text

@@ -1,0 +1,37 @@
+-- The size of a format, which bounds the points of its machine.
+use Rattle.std.specs.Prelude.{ℕ, ◌+◌, ◌*◌, List, [], ◌∷◌, length}
+use Rattle.lf_escape.specs.Plain.{raw_prefixes, plus_prefixes, doubled_prefixes}
+use Rattle.lf_escape.specs.Apache.{apache_prefixes}
+use Rattle.lf_escape.specs.Nginx.{nginx_prefixes, json_prefixes}
+use Rattle.lf_escape.specs.HaProxy.{hash_prefixes, capture_prefixes, escape_prefixes}
+use Rattle.lf_format.specs.Kinds.{kind_size}
+use Rattle.lf_format.specs.declared.kind.Coding.{Coding}
+use Rattle.lf_format.specs.declared.kind.Coding.TheVariants.{Raw, ApacheHex, NginxHex, NginxJson, HaHash, HaCapture, HaEscape, PlusSpace, Doubled}
+use Rattle.lf_format.specs.declared.format.Piece.{Piece}
+use Rattle.lf_format.specs.declared.format.Piece.TheVariants.{Literal, Slot}
+
+-- How many proper prefixes the words of a code have, the empty one counted.
+abbrev pub prefixes_of : Coding → ℕ
+prefixes_of Raw = raw_prefixes
+prefixes_of ApacheHex = apache_prefixes
+prefixes_of NginxHex = nginx_prefixes
+prefixes_of NginxJson = json_prefixes
+prefixes_of HaHash = hash_prefixes
+prefixes_of HaCapture = capture_prefixes
+prefixes_of HaEscape = escape_prefixes
+prefixes_of PlusSpace = plus_prefixes
+prefixes_of Doubled = doubled_prefixes
+
+-- The size of a piece: a literal's bytes; of a slot its domain's size for each prefix of its code, and three.
+abbrev pub piece_size : Piece → ℕ
+piece_size (Literal text) = length text
+piece_size (Slot slot) = kind_size slot.kind * prefixes_of slot.code + 3
+
+-- The sizes of the pieces, summed.
+abbrev pub pieces_size : List Piece → ℕ
+pieces_size [] = 0
+pieces_size (piece ∷ pieces) = piece_size piece + pieces_size pieces
+
+-- The size of a format: that of its pieces, and two.
+abbrev pub size_of : List Piece → ℕ
+size_of pieces = pieces_size pieces + 2

@@ -1,0 +1,16 @@
+//! Records as JSON: an array with a value for each slot, written and read.
+#![tactic(auto)]
+
+mod bad_record;
+mod items;
+pub mod laws;
+mod letters;
+mod reading;
+mod writing;
+
+pub use bad_record::BadRecord;
+pub use reading::read_record;
+pub use writing::{write_record, write_text};
+
+#[cfg(test)]
+mod tests;

@@ -1,0 +1,17 @@
+pub mod Calendar
+pub mod CalendarPromise
+pub mod Texts
+pub mod Layouts
+pub mod Places
+pub mod Names
+pub mod Readings
+pub mod Choices
+pub mod CalendarLaws
+pub mod PlaceLaws
+pub mod FieldLaws
+pub mod NameLaws
+pub mod DateLaws
+pub mod OffsetLaws
+pub mod ReadingLaws
+pub mod LayoutLaws
+pub mod DomainLaws

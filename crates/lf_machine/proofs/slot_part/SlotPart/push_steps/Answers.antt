@@ -1,0 +1,27 @@
+use Rattle.std.proofs.Common.{◌∙◌, ◌++◌, ◌∷◌, [], length, ap, sym, List, ℕ}
+use Rattle.std.specs.List.{flat_map}
+use Rattle.lf_core.specs.declared.marked.Move.{Move}
+use Rattle.lf_format.specs.Codings.{coding_takes, coding_word}
+use Rattle.lf_format.specs.Kinds.{kind_machine}
+use Rattle.lf_format.specs.declared.kind.Coding.{Coding}
+use Rattle.lf_format.specs.declared.slot.Slot.{Slot}
+use Rattle.lf_machine.specs.Endings.{letters_ending}
+use Rattle.lf_machine.specs.Pieces.{table_of}
+use Rattle.lf_machine.specs.SlotMoves.{inner_move}
+use Rattle.lf_machine.specs.Table.{index_of, one_letter, letter_moves}
+use Rattle.lf_machine.proofs.EndingLaws.{letters-moves}
+use Rattle.lf_machine.proofs.Placed.{put-both}
+use Rattle.lf_machine.proofs.slot_part.SlotPart.push_steps.Goals as goal
+
+pub returns : goal.returns
+returns c =
+    let code = ap (λ (k : Coding). letters_ending (coding_takes k) (coding_word k) c.args.byte 256) (c.self.invariant.same ∙ ap (λ (s : Slot). s.code) c.self.view_is) in
+    let one : ℕ → List Move = one_letter (coding_takes c.args.self.now.code) (coding_word c.args.self.now.code) ((kind_machine c.args.self.now.kind).next c.args.state) 3 (length (table_of c.args.self.now.code)) (c.args.read.now ++ c.args.byte ∷ []) in
+    let listed = letters-moves (coding_takes c.args.self.now.code) (coding_word c.args.self.now.code) ((kind_machine c.args.self.now.kind).next c.args.state) (length (table_of c.args.self.now.code)) c.args.read.now c.args.byte in
+    record {
+      ok = put-both c.args.aim c.args.into.now.items c.push_inner.new.into.items c.push_letters.new.into.items
+          (inner_move (length (table_of c.args.self.now.code)) c.args.state (index_of (table_of c.args.self.now.code) (c.args.read.now ++ c.args.byte ∷ [])))
+          (flat_map one c.ending.result.now)
+          (letter_moves (coding_takes c.args.self.now.code) (coding_word c.args.self.now.code) ((kind_machine c.args.self.now.kind).next c.args.state) 3 (length (table_of c.args.self.now.code)) (c.args.read.now ++ c.args.byte ∷ []) 256)
+          c.in_ok-push_inner.ensures.ok c.in_ok-push_letters.ensures.ok (ap (flat_map one) (c.ending.ensures ∙ code) ∙ sym listed);
+    }

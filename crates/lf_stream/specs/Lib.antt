@@ -1,0 +1,5 @@
+pub mod Cut
+pub mod Sorts
+pub mod Held
+pub mod Standing
+pub mod Marks

@@ -1,0 +1,91 @@
+//! The bytes that are held.
+ghost use Rattle.std.specs.Prelude.{◌≡◌, ◌≤◌, ◌+◌, ◌-◌, ◌<◌, ◌∷◌, ◌++◌, [], MatchOption, IfOk, length, slice_range};
+ghost use Rattle.lf_stream.specs.Cut.{HasNoFeed};
+ghost use Rattle.lf_stream.specs.declared.limits.TheConstants.{BUFFER};
+
+use crate::limits::{BUFFER, LEAST_ROOM};
+use lf_core::OutOfMemory;
+use memchr::memchr;
+use std::alloc::Global;
+
+/// A buffer whose bytes from `start` up to `end` are held, with no line feed before `scanned`.
+#[derive(Drop)]
+pub(crate) struct Buffer {
+    pub(crate) bytes: Vec<u8>,
+    pub(crate) start: usize,
+    scanned: usize,
+    pub(crate) end: usize,
+    ghost whole: { length bytes.items ≡ BUFFER },
+    ghost from: { start ≤ scanned },
+    ghost to: { scanned ≤ end },
+    ghost within: { end ≤ BUFFER },
+    ghost clean: { HasNoFeed (slice_range bytes.items start scanned) },
+}
+
+impl Buffer {
+    ghost use Rattle.lf_stream.specs.Held.{held_bytes, Finds};
+
+    pub(crate) fn new(alloc: Global) -> Result<Buffer, OutOfMemory>
+        ensures { IfOk result (λ b. (b.start ≡ 0) × (b.end ≡ 0)) }
+    {
+        Ok(Buffer {
+            bytes: vec![in alloc; 0u8; BUFFER]?,
+            start: 0,
+            scanned: 0,
+            end: 0,
+        })
+    }
+
+    /// Holds these bytes behind the others.
+    pub(crate) fn append(&mut self, piece: &[u8])
+        requires { self.old.end + length piece.now ≤ BUFFER }
+        ensures bytes { held_bytes self.new ≡ held_bytes self.old ++ piece.now }
+        ensures start { self.new.start ≡ self.old.start }
+        ensures end { self.new.end ≡ self.old.end + length piece.now }
+    {
+        let end = self.end + piece.len();
+        self.bytes[self.end..end].copy_from_slice(piece);
+        self.end = end;
+    }
+
+    /// Where the first line feed stands that is held.
+    pub(crate) fn find(&mut self) -> Option<usize>
+        ensures found { Finds self.new result }
+        ensures same { (self.new.bytes ≡ self.old.bytes) × (self.new.start ≡ self.old.start) × (self.new.end ≡ self.old.end) }
+    {
+        let found = memchr(b'\n', &self.bytes[self.scanned..self.end]);
+        match found {
+            None => {
+                self.scanned = self.end;
+                None
+            }
+            Some(ahead) => Some(self.scanned + ahead),
+        }
+    }
+
+    /// Lets go of the bytes before this place.
+    pub(crate) fn release(&mut self, to: usize)
+        requires low { self.old.start ≤ to }
+        requires high { to ≤ self.old.end }
+        ensures { (self.new.bytes ≡ self.old.bytes) × (self.new.start ≡ to) × (self.new.end ≡ self.old.end) }
+    {
+        self.start = to;
+        self.scanned = to;
+    }
+
+    /// Moves the bytes to the front where little room is left behind them.
+    pub(crate) fn settle(&mut self)
+        requires { self.old.end - self.old.start + LEAST_ROOM ≤ BUFFER }
+        ensures bytes { held_bytes self.new ≡ held_bytes self.old }
+        ensures room { self.new.end + LEAST_ROOM ≤ BUFFER }
+        ensures shift { self.new.start + self.old.end ≡ self.old.start + self.new.end }
+        ensures less { self.new.end ≤ self.old.end }
+    {
+        if self.end > BUFFER - LEAST_ROOM {
+            self.bytes.copy_within(self.start..self.end, 0);
+            self.end -= self.start;
+            self.scanned = 0;
+            self.start = 0;
+        }
+    }
+}

@@ -1,0 +1,3 @@
+pub mod TimeLayouts
+pub mod Instants
+pub mod TimeLaws

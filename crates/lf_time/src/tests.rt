@@ -1,0 +1,235 @@
+use crate::{ClfTime, HaTime, IsoMillisZ, IsoOffset, JsonTime, W3cClock, W3cDate, epoch, to_utc};
+use lf_core::{Bytes, Domain, Moment, Value};
+use std::alloc::Global;
+use std::process::Abort;
+use std::test::Fail;
+
+fn shared<T: Send + Sync>(_: &T) {}
+
+/// Whether the machine accepts the text.
+fn accepts<D: Domain>(rt: &impl Abort, domain: &D, text: &[u8]) -> bool {
+    let mut point = domain.start();
+    for letter in text {
+        assert!(rt; point < domain.points());
+        match domain.step(point, *letter) {
+            Some(after) => point = after,
+            None => return false,
+        }
+    }
+    assert!(rt; point < domain.points());
+    domain.ends(point)
+}
+
+/// The domain holds the value, and this is its text.
+fn holds<D: Domain + Send + Sync>(
+    rt: &impl Abort,
+    alloc: Global,
+    domain: &D,
+    value: &Value,
+    text: &str,
+) -> Result<(), Fail> {
+    shared(domain);
+    assert!(rt; domain.check(value), "{text}");
+    let mut plain = Bytes::new(alloc);
+    domain.write_plain(value, &mut plain)?;
+    assert!(rt; plain.as_slice() == text.as_bytes(), "{text}");
+    match domain.read_plain(alloc, text.as_bytes())? {
+        Some(read) => {
+            let mut again = Bytes::new(alloc);
+            assert!(rt; domain.check(&read), "{text}");
+            domain.write_plain(&read, &mut again)?;
+            assert!(rt; again.as_slice() == text.as_bytes(), "{text}");
+        }
+        None => panic!(rt; "{text} is not read"),
+    }
+    assert!(rt; accepts(rt, domain, text.as_bytes()), "{text}");
+    Ok(())
+}
+
+/// The text is no held value's.
+fn refuses<D: Domain>(rt: &impl Abort, alloc: Global, domain: &D, text: &str) -> Result<(), Fail> {
+    let read = domain.read_plain(alloc, text.as_bytes())?;
+    assert!(rt; read.is_none(), "{text} is read");
+    assert!(rt; !accepts(rt, domain, text.as_bytes()), "{text} is accepted");
+    Ok(())
+}
+
+fn at(seconds: i64, millis: u16, offset: i16) -> Value {
+    Value::Moment(Moment {
+        seconds,
+        millis,
+        offset,
+    })
+}
+
+#[test]
+fn days_at_their_edges(rt: HostRuntime) -> Result<(), Fail> {
+    let alloc = rt.alloc();
+    for (day, text) in [
+        (0, "1970-01-01"),
+        (-1, "1969-12-31"),
+        (11240, "2000-10-10"),
+        (11016, "2000-02-29"),
+        (-719_162, "0001-01-01"),
+        (2_932_896, "9999-12-31"),
+    ] {
+        holds(&rt, alloc, &W3cDate, &Value::Day(day), text)?;
+    }
+    for text in [
+        "0000-01-01",
+        "2000-02-30",
+        "1900-02-29",
+        "2001-02-29",
+        "2000-04-31",
+        "2000-13-01",
+        "2000-00-10",
+        "2000-10-00",
+        "2000-1-10",
+        "2000-10-10 ",
+    ] {
+        refuses(&rt, alloc, &W3cDate, text)?;
+    }
+    assert!(rt; !W3cDate.check(&Value::Day(-719_163)) && !W3cDate.check(&Value::Day(2_932_897)));
+    Ok(())
+}
+
+#[test]
+fn clocks_at_their_edges(rt: HostRuntime) -> Result<(), Fail> {
+    let alloc = rt.alloc();
+    for (second, text) in [(0, "00:00:00"), (50_136, "13:55:36"), (86_399, "23:59:59")] {
+        holds(&rt, alloc, &W3cClock, &Value::Clock(second), text)?;
+    }
+    for text in ["24:00:00", "23:60:00", "23:59:60", "1:00:00", "", "13:55"] {
+        refuses(&rt, alloc, &W3cClock, text)?;
+    }
+    assert!(rt; !W3cClock.check(&Value::Clock(86_400)) && !W3cClock.check(&Value::Missing));
+    Ok(())
+}
+
+#[test]
+fn moments_of_each_layout(rt: HostRuntime) -> Result<(), Fail> {
+    let alloc = rt.alloc();
+    let clf = ClfTime { bracketed: false };
+    let bracketed = ClfTime { bracketed: true };
+    holds(
+        &rt,
+        alloc,
+        &clf,
+        &at(971_186_136, 0, -420),
+        "10/Oct/2000:13:55:36 -0700",
+    )?;
+    holds(
+        &rt,
+        alloc,
+        &bracketed,
+        &at(971_186_136, 0, -420),
+        "[10/Oct/2000:13:55:36 -0700]",
+    )?;
+    holds(
+        &rt,
+        alloc,
+        &IsoOffset,
+        &at(971_186_136, 0, -420),
+        "2000-10-10T13:55:36-07:00",
+    )?;
+    holds(
+        &rt,
+        alloc,
+        &IsoMillisZ,
+        &at(1_460_751_420, 310, 0),
+        "2016-04-15T20:17:00.310Z",
+    )?;
+    holds(
+        &rt,
+        alloc,
+        &HaTime,
+        &at(1_233_922_454, 655, 0),
+        "06/Feb/2009:12:14:14.655",
+    )?;
+    holds(
+        &rt,
+        alloc,
+        &JsonTime,
+        &at(971_186_136, 0, -420),
+        "2000-10-10T13:55:36.000-07:00",
+    )?;
+    holds(
+        &rt,
+        alloc,
+        &JsonTime,
+        &at(-62_135_596_800, 7, 0),
+        "0001-01-01T00:00:00.007+00:00",
+    )?;
+    holds(
+        &rt,
+        alloc,
+        &JsonTime,
+        &at(253_402_300_799, 999, 1439),
+        "9999-12-31T23:59:59.999+23:59",
+    )?;
+    assert!(rt;
+        !clf.check(&at(0, 1, 0)) && !IsoMillisZ.check(&at(0, 0, 1)) && !HaTime.check(&at(0, 0, -1))
+    );
+    assert!(rt; !JsonTime.check(&at(253_402_300_800, 0, 0)) && !JsonTime.check(&at(0, 1000, 0)));
+    assert!(rt; !JsonTime.check(&at(0, 0, 1440)) && !JsonTime.check(&at(0, 0, -1440)));
+    Ok(())
+}
+
+#[test]
+fn no_such_moment(rt: HostRuntime) -> Result<(), Fail> {
+    let alloc = rt.alloc();
+    let clf = ClfTime { bracketed: false };
+    for text in [
+        "30/Feb/2000:13:55:36 -0700",
+        "29/Feb/2001:13:55:36 -0700",
+        "31/Apr/2000:13:55:36 -0700",
+        "10/oct/2000:13:55:36 -0700",
+        "10/Jux/2000:13:55:36 -0700",
+        "10/Oct/0000:13:55:36 -0700",
+        "10/Oct/2000:13:55:36 -0000",
+        "10/Oct/2000:13:55:36 +2400",
+        "10/Oct/2000:13:55:36 +0060",
+        "[10/Oct/2000:13:55:36 -0700]",
+    ] {
+        refuses(&rt, alloc, &clf, text)?;
+    }
+    refuses(&rt, alloc, &IsoOffset, "2000-10-10T13:55:36-00:00")?;
+    refuses(&rt, alloc, &IsoOffset, "2000-10-10T13:55:36-0700")?;
+    refuses(&rt, alloc, &IsoMillisZ, "2016-04-15T20:17:00.31Z")?;
+    refuses(&rt, alloc, &JsonTime, "2000-10-10T13:55:36-07:00")?;
+    refuses(
+        &rt,
+        alloc,
+        &ClfTime { bracketed: true },
+        "10/Oct/2000:13:55:36 -0700",
+    )
+}
+
+#[test]
+fn instants(rt: HostRuntime) -> Result<(), Fail> {
+    let moment = Moment {
+        seconds: 971_186_136,
+        millis: 5,
+        offset: -420,
+    };
+    assert_eq!(rt; epoch(moment), 971_211_336);
+    let utc = Moment {
+        seconds: 971_211_336,
+        millis: 5,
+        offset: 0,
+    };
+    assert_eq!(rt; to_utc(moment), Some(utc));
+    let early = Moment {
+        seconds: -62_135_596_800,
+        millis: 0,
+        offset: 1,
+    };
+    assert_eq!(rt; to_utc(early), None);
+    let late = Moment {
+        seconds: 253_402_300_799,
+        millis: 0,
+        offset: -1,
+    };
+    assert_eq!(rt; to_utc(late), None);
+    Ok(())
+}

@@ -1,0 +1,5 @@
+use Rattle.lf_witness.proofs.RunSteps.{Extends}
+use Rattle.lf_witness.proofs.runs.extend_least.Given as goal
+
+abbrev pub invariant-loop-i : goal.invariant-loop-i
+invariant-loop-i g l = Extends (g.M.Marked.machine l.m) l.start l.line l.i l.initial.run l.run l.point
