@@ -8,3 +8,5 @@ pub mod Sweep
 pub mod Joins
 pub mod Inbound
 pub mod Beginnings
+pub mod Deciding
+pub mod Ambiguity

@@ -3,6 +3,7 @@
 
 mod arrivals;
 mod byte_set;
+pub mod laws;
 mod limits;
 mod pairs;
 mod search;

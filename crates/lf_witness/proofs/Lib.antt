@@ -10,3 +10,6 @@ pub mod SetLaws
 pub mod SecondLaws
 pub mod StepLaws
 pub mod HeadLaws
+pub mod RunChoice
+pub mod LineChoice
+pub mod Existence

@@ -11,7 +11,7 @@ use Rattle.lf_witness.specs.Shared.{NotAbove, IsLeastShared, IsLeast, IsNextOf, 
 use Rattle.std.proofs.lemmas.List.Elements.{All-contains}
 use Rattle.std.proofs.Common.{Option, Some, None}
 use Rattle.std.specs.Prelude.{unwrap_or}
-use Rattle.lf_witness.proofs.Lists.{contains_none}
+use Rattle.lf_product.proofs.Ambiguity.{byte_low}
 use Rattle.lf_witness.proofs.Shares.{Shares, suffices_from_shares, shared_from_shares, shares_from_shared}
 
 abbrev pub SharesAt : Machine → List ℕ → Flagged → Type 0
@@ -134,20 +134,13 @@ least_shared m line level p g v h low = record {
       ];
 }
 
-moves_on : (m : Machine) (from b : ℕ) (x : Move) → IsMachine m → from < m.count → Contains (m.moves from b) x → b < 256
-moves_on m from b x lawful low h =
-    elim (cases_lt b 256) [
-      | inl lt ↦ lt
-      | inr ge ↦ absurd (contains_none x (subst (λ (ys : List Move). Contains ys x) (lawful.bytes from b low ge) h))
-    ]
-
 -- a pair that isn't at the ends leads on by some byte
 pub leads_on : (m : Machine) (k : ℕ) (level : List Flagged) (q : Flagged) → IsMachine m → q.left < m.count → Contains level q → IsLeast m (k + 1) q → (b : ℕ) × (b < 256) × ((p : Flagged) × IsNextOf m k level b p)
 leads_on m k level q lawful low listed least =
     let some : Suffices m (suc k) q.left q.right q.differed = subst (λ (n : ℕ). Suffices m n q.left q.right q.differed) (add-one k) least.0 in
     let s = some.3 in (
       s.byte,
-      moves_on m q.left s.byte s.left lawful low s.on_left,
+      byte_low m q.left s.byte s.left lawful low s.on_left,
       (
         record { left = some.0; right = some.1; differed = some.2 },
         record {

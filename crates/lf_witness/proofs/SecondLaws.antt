@@ -15,10 +15,10 @@ use Rattle.lf_witness.specs.Branch.{IsBranch, OnlyFrom, IsOtherMove}
 use Rattle.lf_witness.proofs.Endings.{stop_push}
 use Rattle.lf_witness.proofs.RunSteps.{opens_by, tail_runs}
 
-move_is : (x y : Move) → x.mark ≡ y.mark → x.to ≡ y.to → x ≡ y
+pub move_is : (x y : Move) → x.mark ≡ y.mark → x.to ≡ y.to → x ≡ y
 move_is x y h k = ap (λ (v : ℕ). record { mark = v; to = x.to }) h ∙ ap (λ (v : ℕ). record { mark = y.mark; to = v }) k
 
-move_cases : (x y : Move) → (x ≡ y) ⊎ (x ≢ y)
+pub move_cases : (x y : Move) → (x ≡ y) ⊎ (x ≢ y)
 move_cases x y =
     elim (cases_eq x.mark y.mark) [
       | inl h ↦ elim (cases_eq x.to y.to) [ inl k ↦ inl (move_is x y h k) | inr n ↦ inr (λ e. n (ap (λ (z : Move). z.to) e)) ]

@@ -5,5 +5,6 @@ pub mod Branch
 pub mod Steps
 pub mod Shared
 pub mod Heads
+pub mod Least
 pub mod Fork
 pub mod ForkLaws

@@ -1,0 +1,3 @@
+pub mod Confused
+pub mod Notes
+pub mod Accepted

@@ -1,0 +1,78 @@
+ghost use Rattle.std.specs.Prelude.{◌≡◌, ℕ, ◌≤◌, ◌⊎◌, List, Option, MatchOption, MatchResult, IfOk, IfErr, true};
+ghost use Rattle.lf_core.specs.declared.values.Value.{Value};
+ghost use Rattle.lf_format.specs.Size.{size_of};
+ghost use Rattle.lf_compile.specs.Accepted.{HasNoNote, IsAccepted, IsTooLarge, IsRefusedNote, IsRefusedConfusion, IsCauseOf, IsAnswer};
+ghost use Rattle.lf_compile.specs.Notes.{IsLeastNote};
+ghost use Rattle.lf_compile.specs.declared.refused.Confusion.{Confusion};
+ghost use Rattle.lf_compile.specs.declared.refused.Refused.{Refused};
+
+use crate::confusion::least_confusion;
+use crate::limits::SIZE;
+use crate::note::least_note;
+use crate::reader::Reader;
+use crate::refused::{CompileRefused, Refused};
+use lf_core::{OutOfMemory, Record};
+use lf_format::Format;
+use lf_machine::FormatMachine;
+use std::alloc::Global;
+
+/// The reader of a readable format. A refusal gives the format back.
+/// The time and memory that are used grow with the square of the format's size.
+pub fn compile(alloc: Global, format: Format) -> Result<Reader, CompileRefused>
+    ensures same { IfOk result (λ reader. reader ≡ format) }
+    ensures ok { IfOk result (λ reader. IsAccepted format) }
+    ensures kept { IfErr result (λ refused. refused.format ≡ format) }
+    ensures too_large { IfErr result (λ refused. (size : ℕ) → refused.cause ≡ Refused.TooLarge size → IsTooLarge format size) }
+    ensures hash { IfErr result (λ refused. (rec : List Value) → refused.cause ≡ Refused.Hash rec → IsRefusedNote format rec) }
+    ensures ambiguous { IfErr result (λ refused. (confusion : Confusion) → refused.cause ≡ Refused.Ambiguous confusion → IsRefusedConfusion format confusion) }
+    // What is so is answered, unless memory runs out.
+    ensures exact { (answer : Option Refused) → IsAnswer format answer → MatchResult result
+        (λ reader. answer ≡ None)
+        (λ refused. (answer ≡ Some refused.cause) ⊎ (refused.cause ≡ Refused.OutOfMemory)) }
+{
+    let size = format.size();
+    if size > SIZE {
+        return Err(CompileRefused {
+            format,
+            cause: Refused::TooLarge(size),
+        });
+    }
+    match readable_machine(alloc, &format) {
+        Ok(machine) => Ok(Reader::new(format, machine)),
+        Err(cause) => Err(CompileRefused { format, cause }),
+    }
+}
+
+/// The machine of the format, where that has a reader.
+fn readable_machine(alloc: Global, format: &Format) -> Result<FormatMachine, Refused>
+    requires { size_of format.now.pieces ≤ SIZE }
+    ensures same { IfOk result (λ machine. machine ≡ format.now.pieces) }
+    ensures ok { IfOk result (λ machine. IsAccepted format.now) }
+    ensures err { IfErr result (λ cause. IsCauseOf format.now cause) }
+{
+    let machine = FormatMachine::build(alloc, format)?;
+    if let Some(record) = refused_note(alloc, format, &machine)? {
+        return Err(Refused::Hash(record));
+    }
+    match least_confusion(alloc, &machine)? {
+        Some(confusion) => Err(Refused::Ambiguous(confusion)),
+        None => Ok(machine),
+    }
+}
+
+/// The least record whose line is a note.
+fn refused_note(
+    alloc: Global,
+    format: &Format,
+    machine: &FormatMachine,
+) -> Result<Option<Record>, OutOfMemory>
+    requires { machine.now ≡ format.now.pieces }
+    ensures { IfOk result (λ found. MatchOption found
+        (HasNoNote format.now)
+        (λ rec. (format.now.notes ≡ true) × IsLeastNote format.now.pieces rec)) }
+{
+    if !format.notes() {
+        return Ok(None);
+    }
+    least_note(alloc, machine)
+}
