@@ -1,57 +1,56 @@
 #!/bin/bash
-# Reads 100 MB of short lines, with a fixed seed, by logfmt, and counts and splits the same lines by peers.
-# Wants gawk (Debian's package gawk). Prints seconds, MB/s and the ratio to logfmt.
+# Reads a million lines of each kind, made with a fixed seed, by logfmt on one core, and lets peers write the same JSON
+# (wc counts the lines). Wants gawk (Debian's package gawk). Prints seconds, MB/s and the ratio to logfmt.
+# usage: read.sh [KIND..], of short, combined, nginx, haproxy
 set -e
 cd "$(dirname "$0")/.."
 program=crates/logfmt/out/logfmt
 [ -x "$program" ] || bin/logfmt >/dev/null 2>&1 </dev/null || true
 work=${TMPDIR:-/tmp}/logfmt-bench-read
 mkdir -p "$work"
-input=$work/short.log
-if [ ! -s "$input" ]; then
-    python3 - "$input" <<'PY'
-import random, sys
-random.seed(20261130)
-size, parts = 0, []
-with open(sys.argv[1], "w") as out:
-    while size < 100_000_000:
-        host = ".".join(str(random.randrange(256)) for _ in range(4)) if random.random() < 0.97 else "-"
-        status = random.choice((200, 200, 200, 301, 304, 404, 500))
-        line = f"{host} {status} {random.randrange(10 ** random.randrange(1, 8))}\n"
-        parts.append(line)
-        size += len(line)
-        if len(parts) == 10000:
-            out.write("".join(parts))
-            parts = []
-    out.write("".join(parts))
-PY
-fi
-bytes=$(stat -c %s "$input")
+. bench/timing.sh
 
-timed() { # NAME COMMAND..: the least of three runs
-    local name=$1 best= took
-    shift
-    for _ in 1 2 3; do
-        local start end
-        start=$(date +%s.%N)
-        "$@" <"$input" >"$work/$name.out"
-        end=$(date +%s.%N)
-        took=$(echo "$end - $start" | bc -l)
-        if [ -z "$best" ] || [ "$(echo "$took < $best" | bc -l)" = 1 ]; then best=$took; fi
-    done
-    echo "$best" >"$work/$name.seconds"
+same() { # NAME: its JSON is logfmt's
+    cmp "$work/logfmt.out" "$work/$1.out" && echo "logfmt and $1 give the same JSON"
 }
 
-timed logfmt "$program" read apache '%h %s %B'
-timed wc wc -l
-timed gawk gawk '{ print "[" ($1 == "-" ? "null" : "\"" $1 "\"") "," ($2 == "-" ? "null" : $2) "," $3 "]" }'
-cmp "$work/logfmt.out" "$work/gawk.out" && echo "logfmt and gawk give the same JSON"
-own=$(cat "$work/logfmt.seconds")
-printf '%-8s %9s %9s %9s\n' program seconds MB/s ratio
-for name in logfmt wc gawk; do
-    seconds=$(cat "$work/$name.seconds")
-    printf '%-8s %9.3f %9.1f %9.2f\n' "$name" "$seconds" \
-        "$(echo "$bytes / 1000000 / $seconds" | bc -l)" "$(echo "$seconds / $own" | bc -l)"
+measured() { # KIND FRONT FORMAT
+    local kind=$1
+    input=$work/$kind.log
+    [ -s "$input" ] || python3 bench/generate.py "$kind" "${LINES_OF_LOG:-1000000}" >"$input"
+    bytes=$(stat -c %s "$input")
+    echo "$kind: $((bytes / 1000000)) MB"
+    timed logfmt "$program" read "$2" "$3"
+    timed wc wc -l
+    case $kind in
+    short)
+        timed gawk gawk '{ print "[" ($1 == "-" ? "null" : "\"" $1 "\"") "," ($2 == "-" ? "null" : $2) "," $3 "]" }'
+        same gawk
+        compared logfmt wc gawk
+        ;;
+    combined)
+        timed gawk env LC_ALL=C gawk -f bench/combined.awk
+        timed python python3 bench/peer.py "$kind"
+        same gawk
+        same python
+        compared logfmt wc gawk python
+        ;;
+    *)
+        timed python python3 bench/peer.py "$kind"
+        same python
+        compared logfmt wc python
+        ;;
+    esac
+    /usr/bin/time -f 'logfmt: %M KB resident' "$program" read "$2" "$3" <"$input" >/dev/null || true
+}
+
+kinds=${*:-short combined nginx haproxy}
+for kind in $kinds; do
+    case $kind in
+    short) measured short apache '%h %s %B' ;;
+    combined) measured combined apache '%h %l %u %t "%r" %>s %b "%{Referer}i" "%{User-agent}i"' ;;
+    nginx) measured nginx nginx '$remote_addr - $remote_user [$time_local] "$request" $status $body_bytes_sent "$http_referer" "$http_user_agent"' ;;
+    haproxy) measured haproxy haproxy '%ci:%cp [%tr] %ft %b/%s %TR/%Tw/%Tc/%Tr/%Ta %ST %B %CC %CS %tsc %ac/%fc/%bc/%sc/%rc %sq/%bq %hr %hs %{+Q}r' ;;
+    *) echo "no such kind: $kind" >&2; exit 2 ;;
+    esac
 done
-/usr/bin/time -f 'logfmt: %M KB resident' "$program" read apache '%h %s %B' <"$input" >/dev/null || true
-echo "cores: $(nproc)"

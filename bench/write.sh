@@ -24,28 +24,8 @@ PY
 fi
 bytes=$(stat -c %s "$input")
 
-timed() { # NAME COMMAND..: the least of three runs
-    local name=$1 best= took
-    shift
-    for _ in 1 2 3; do
-        local start end
-        start=$(date +%s.%N)
-        "$@" <"$input" >"$work/$name.out"
-        end=$(date +%s.%N)
-        took=$(echo "$end - $start" | bc -l)
-        if [ -z "$best" ] || [ "$(echo "$took < $best" | bc -l)" = 1 ]; then best=$took; fi
-    done
-    echo "$best" >"$work/$name.seconds"
-}
-
+. bench/timing.sh
 timed logfmt "$program" write apache '%h %s %B'
 timed jq jq -r '(.[0] // "-") + " " + (.[1] // "-" | tostring) + " " + (.[2] | tostring)'
 cmp "$work/logfmt.out" "$work/jq.out" && echo "logfmt and jq give the same lines"
-own=$(cat "$work/logfmt.seconds")
-printf '%-8s %9s %9s %9s\n' program seconds MB/s ratio
-for name in logfmt jq; do
-    seconds=$(cat "$work/$name.seconds")
-    printf '%-8s %9.3f %9.1f %9.2f\n' "$name" "$seconds" \
-        "$(echo "$bytes / 1000000 / $seconds" | bc -l)" "$(echo "$seconds / $own" | bc -l)"
-done
-echo "cores: $(nproc)"
+compared logfmt jq

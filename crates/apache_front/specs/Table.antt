@@ -14,7 +14,7 @@ use Rattle.lf_format.specs.CommonKinds.{zero_fits, one_fits, texts, numbers, das
 use Rattle.apache_front.specs.declared.table.Names.{Names}
 use Rattle.apache_front.specs.declared.table.Names.TheVariants.{Never, Always, Client, Port, Process, Unit as UnitName}
 use Rattle.apache_front.specs.declared.table.Sort.{Sort}
-use Rattle.apache_front.specs.declared.table.Sort.TheVariants.{Visible, Filled, Free, Query, Count, DashCount, PortNumber, Status, Connection}
+use Rattle.apache_front.specs.declared.table.Sort.TheVariants.{Visible, Filled, Free, Query, Count, DashCount, PortNumber, Status, Time, Connection}
 use Rattle.apache_front.specs.declared.table.Row.{Row}
 
 -- Some letters and the row that they have.
@@ -41,6 +41,7 @@ table =
     entry_of (codes "P") Process Count No ∷
     entry_of (codes "T") UnitName Count No ∷
     entry_of (codes "s") Never Status Dash ∷
+    entry_of (codes "t") Never Time No ∷
     entry_of (codes "X") Never Connection No ∷
     []
 
@@ -67,6 +68,7 @@ kind_of Count = numbers (pos 0) (pos greatest)
 kind_of DashCount = dashed (pos 0) (pos greatest) (≤ℤ_refl (pos 0))
 kind_of PortNumber = numbers (pos 0) (pos 65535)
 kind_of Status = numbers (pos 100) (pos 999)
+kind_of Time = kind.Clf (record { bracketed = true })
 kind_of Connection = kind.Words (record { list = codes "X" ∷ codes "+" ∷ codes "-" ∷ [] })
 
 -- texts are escaped, and nothing else is

@@ -6,8 +6,9 @@ ghost use Rattle.std.specs.Option.{option_copied};
 ghost use Rattle.apache_front.specs.Table.{row_of, kind_of, takes, is_listed};
 
 use lf_core::{Class, OutOfMemory};
-use lf_domain::{NumRange, QueryText, WordList, Words};
+use lf_domain::{QueryText, WordList, Words};
 use lf_format::{Absent, Kind};
+use lf_time::ClfTime;
 use std::alloc::Global;
 
 /// The names that a letter takes.
@@ -32,6 +33,7 @@ pub enum Sort {
     DashCount,
     PortNumber,
     Status,
+    Time,
     Connection,
 }
 
@@ -62,6 +64,7 @@ pub fn find_row(letter: u8) -> Option<Row>
         b'P' => (Names::Process, Sort::Count, Absent::No),
         b'T' => (Names::Unit, Sort::Count, Absent::No),
         b's' => (Names::Never, Sort::Status, Absent::Dash),
+        b't' => (Names::Never, Sort::Time, Absent::No),
         b'X' => (Names::Never, Sort::Connection, Absent::No),
         _ => return None,
     };
@@ -92,13 +95,11 @@ pub fn kind_of(alloc: Global, sort: Sort) -> Result<Kind, OutOfMemory>
         Sort::Filled => Ok(Kind::texts(Class::ANY, 1)),
         Sort::Free => Ok(Kind::texts(Class::ANY, 0)),
         Sort::Query => Ok(Kind::Query(QueryText { class: Class::ANY })),
-        Sort::Count => Ok(Kind::Num(NumRange {
-            lo: 0,
-            hi: i64::MAX,
-        })),
+        Sort::Count => Ok(Kind::numbers(0, i64::MAX)),
         Sort::DashCount => Ok(Kind::dashed(0, i64::MAX)),
-        Sort::PortNumber => Ok(Kind::Num(NumRange { lo: 0, hi: 65535 })),
-        Sort::Status => Ok(Kind::Num(NumRange { lo: 100, hi: 999 })),
+        Sort::PortNumber => Ok(Kind::numbers(0, 65535)),
+        Sort::Status => Ok(Kind::numbers(100, 999)),
+        Sort::Time => Ok(Kind::Clf(ClfTime { bracketed: true })),
         Sort::Connection => Ok(Kind::Words(Words {
             list: connection_words(alloc)?,
         })),

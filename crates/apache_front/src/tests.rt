@@ -42,6 +42,10 @@ fn kind_text(alloc: Global, kind: &Kind) -> Result<String, AllocError> {
             let has_all = words.list.has(b"X") && words.list.has(b"+") && words.list.has(b"-");
             format!(in alloc; "words {count} {has_all}")
         }
+        Kind::Clf(time) => {
+            let is_bracketed = time.bracketed;
+            format!(in alloc; "time {is_bracketed}")
+        }
         _ => String::from_str(alloc, "?"),
     }
 }
@@ -92,7 +96,7 @@ fn first_faults(rt: HostRuntime) -> Result<(), Fail> {
         ("%Z", "UnknownName at 0"),
         ("%h %200!h", "UnknownName at 3"),
         ("%{x}%", "UnknownName at 0"),
-        ("%t", "UnknownName at 0"),
+        ("%{c}t", "BadName at 0"),
         ("%{}i", "BadName at 0"),
         ("a%C", "BadName at 1"),
         ("%{x}H", "BadName at 0"),
@@ -141,6 +145,8 @@ fn rows_of_the_table(rt: HostRuntime) -> Result<(), Fail> {
         ("%{tid}P", "0..9223372036854775807 Raw No"),
         ("%{us}T", "0..9223372036854775807 Raw No"),
         ("%>s", "100..999 Raw Dash"),
+        ("%t", "time true Raw No"),
+        ("%304t", "time true Raw Dash"),
         ("%X", "words 3 true Raw No"),
         ("%200,304b", "dash 0..9223372036854775807 Raw Dash"),
         ("%!200<{s}T", "0..9223372036854775807 Raw Dash"),

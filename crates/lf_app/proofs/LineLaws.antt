@@ -1,98 +1,128 @@
--- How a stream is cut at its line feeds.
-use Rattle.std.proofs.Common.{◌≡◌, ◌≢◌, ℕ, suc, ◌<◌, true, false, ◌==◌, List, [], ◌∷◌, ◌++◌, length, get_or, refl, sym, ◌∙◌, ap, arith, append_assoc}
-use Rattle.std.proofs.lemmas.Bool.{or_parts, or_right, ne_eqb}
-use Rattle.std.proofs.lemmas.List.{append-nil}
-use Rattle.std.specs.List.{flat_map, AllByRecursion}
-use Rattle.std.proofs.lemmas.List.Concat.{flat_map-append}
-use Rattle.lf_app.specs.Lines.{cut_lines, has_feed, whole_part}
-use Rattle.lf_app.specs.Progress.{HasNoFeed, with_feed, Splits}
+-- How the lines of a stream grow with it.
+use Rattle.std.proofs.Common.{◌≡◌, ℕ, ◌+◌, ◌≤◌, Bool, true, false, ◌||◌, ◌==◌, cond, List, [], ◌∷◌, ◌++◌, length, refl, sym, ◌∙◌, ap, arith, append_assoc, length-append, inl, inr}
+use Rattle.std.specs.Prelude.{map}
+use Rattle.std.proofs.lemmas.Bool.{cases_Bool}
+use Rattle.std.proofs.lemmas.List.{map-append, length-map}
+use Rattle.lf_stream.specs.Cut.{with_first, cut_lines, line_of, lines_of, has_feed, whole_part, known_lines}
 
--- the line that a rest without an end is, if any
-abbrev pub last_line : List ℕ → List (List ℕ)
-last_line [] = []
-last_line (b ∷ bs) = (b ∷ bs) ∷ []
+-- what follows the last line feed
+abbrev rest_part : List ℕ → List ℕ
+rest_part [] = []
+rest_part (b ∷ bs) = cond (has_feed (b ∷ bs)) (rest_part bs) (b ∷ bs)
 
-pub lines_ended : (line more : List ℕ) → HasNoFeed line → cut_lines (line ++ 10 ∷ more) ≡ line ∷ cut_lines more
-lines_ended [] more none = refl
-lines_ended (b ∷ bs) more none =
-    let parts = or_parts (b == 10) (has_feed bs) none in
-    rw (parts.0, lines_ended bs more parts.1) refl
+parts_by : (h : Bool) (b : ℕ) (bs w r : List ℕ) → bs ≡ w ++ r → b ∷ bs ≡ cond h (b ∷ w) [] ++ cond h r (b ∷ bs)
+parts_by true b bs w r e = ap (λ zs. b ∷ zs) e
+parts_by false b bs w r e = refl
 
-pub lines_open : (line : List ℕ) → HasNoFeed line → cut_lines line ≡ last_line line
-lines_open [] none = refl
-lines_open (b ∷ []) none = let parts = or_parts (b == 10) false none in rw parts.0 refl
-lines_open (b ∷ c ∷ bs) none =
-    let parts = or_parts (b == 10) (has_feed (c ∷ bs)) none in
-    rw (parts.0, lines_open (c ∷ bs) parts.1) refl
+parts : (bs : List ℕ) → bs ≡ whole_part bs ++ rest_part bs
+parts [] = refl
+parts (b ∷ bs) = parts_by (has_feed (b ∷ bs)) b bs (whole_part bs) (rest_part bs) (parts bs)
 
-pub ends_first : (line : List ℕ) (ended : List (List ℕ)) (more : List ℕ) → flat_map with_feed (line ∷ ended) ++ more ≡ line ++ 10 ∷ (flat_map with_feed ended ++ more)
-ends_first line ended more = simp append_assoc
+whole_is : (b : ℕ) (bs : List ℕ) → has_feed (b ∷ bs) ≡ true → whole_part (b ∷ bs) ≡ b ∷ whole_part bs
+whole_is b bs t = ap (λ h. cond h (b ∷ whole_part bs) []) t
 
-pub lines_split : (ended : List (List ℕ)) (more : List ℕ) → AllByRecursion HasNoFeed ended → cut_lines (flat_map with_feed ended ++ more) ≡ ended ++ cut_lines more
-lines_split [] more each = refl
-lines_split (line ∷ ended) more each =
-    ap cut_lines (ends_first line ended more) ∙ lines_ended line (flat_map with_feed ended ++ more) each.0 ∙ ap (λ ls. line ∷ ls) (lines_split ended more each.1)
+whole_none : (b : ℕ) (bs : List ℕ) → has_feed (b ∷ bs) ≡ false → whole_part (b ∷ bs) ≡ []
+whole_none b bs f = ap (λ h. cond h (b ∷ whole_part bs) []) f
 
-pub feed_behind : (front more : List ℕ) → has_feed (front ++ 10 ∷ more) ≡ true
-feed_behind [] more = refl
-feed_behind (b ∷ bs) more = or_right (b == 10) (has_feed (bs ++ 10 ∷ more)) (feed_behind bs more)
+some_first : (b : ℕ) (lines : List (List ℕ)) → (l : List ℕ) × (ls : List (List ℕ)) × (with_first b lines ≡ l ∷ ls)
+some_first b [] = (b ∷ [], [], refl)
+some_first b (line ∷ lines) = (b ∷ line, lines, refl)
 
-pub no_feed_append : (front more : List ℕ) → HasNoFeed front → HasNoFeed more → HasNoFeed (front ++ more)
-no_feed_append [] more p q = q
-no_feed_append (b ∷ bs) more p q = let parts = or_parts (b == 10) (has_feed bs) p in rw (parts.0, no_feed_append bs more parts.1 q) refl
+some_by : (h : Bool) (b : ℕ) (lines : List (List ℕ)) → (l : List ℕ) × (ls : List (List ℕ)) × (cond h ([] ∷ lines) (with_first b lines) ≡ l ∷ ls)
+some_by true b lines = ([], lines, refl)
+some_by false b lines = some_first b lines
 
-pub whole_ended : (line more : List ℕ) → whole_part (line ++ 10 ∷ more) ≡ line ++ 10 ∷ whole_part more
-whole_ended [] more = refl
-whole_ended (b ∷ bs) more = rw (feed_behind (b ∷ bs) more, whole_ended bs more) refl
+-- Where a line feed is among the bytes, their whole part has a line.
+some_line : (bs : List ℕ) → has_feed bs ≡ true → (l : List ℕ) × (ls : List (List ℕ)) × (cut_lines (whole_part bs) ≡ l ∷ ls)
+some_line [] t = absurd (cc)
+some_line (b ∷ bs) t =
+    let some = some_by (b == 10) b (cut_lines (whole_part bs)) in
+    (some.0, some.1, ap cut_lines (whole_is b bs t) ∙ some.2)
 
-pub whole_open : (rest : List ℕ) → HasNoFeed rest → whole_part rest ≡ []
-whole_open [] none = refl
-whole_open (b ∷ bs) none = rw none refl
+first_append : (b : ℕ) (xs ys : List (List ℕ)) (l : List ℕ) (ls : List (List ℕ)) → xs ≡ l ∷ ls → with_first b (xs ++ ys) ≡ with_first b xs ++ ys
+first_append b xs ys l ls e = ap (λ zs. with_first b (zs ++ ys)) e ∙ sym (ap (λ zs. with_first b zs ++ ys) e)
 
-pub whole_split : (ended : List (List ℕ)) (rest : List ℕ) → HasNoFeed rest → whole_part (flat_map with_feed ended ++ rest) ≡ flat_map with_feed ended
-whole_split [] rest none = whole_open rest none
-whole_split (line ∷ ended) rest none =
-    ap whole_part (ends_first line ended rest) ∙ whole_ended line (flat_map with_feed ended ++ rest) ∙ ap (λ ls. line ++ 10 ∷ ls) (whole_split ended rest none) ∙ sym (append_assoc line (10 ∷ []) (flat_map with_feed ended))
+feed_later : (b : ℕ) (bs : List ℕ) → has_feed (b ∷ bs) ≡ true → (b == 10) ≡ false → has_feed bs ≡ true
+feed_later b bs t other = sym (ap (λ v. v || has_feed bs) other) ∙ t
 
--- no byte is a line feed
-pub no_feed_from_reads : (bs : List ℕ) → ((k : ℕ) → k < length bs → get_or bs k 0 ≢ 10) → HasNoFeed bs
-no_feed_from_reads [] none = refl
-no_feed_from_reads (b ∷ bs) none =
-    rw (ne_eqb b 10 (none 0 (omega arith)), no_feed_from_reads bs (λ k below. none (suc k) (omega arith))) refl
+cut_more : (b : ℕ) (bs more : List ℕ) → has_feed (b ∷ bs) ≡ true → cut_lines (whole_part bs ++ more) ≡ cut_lines (whole_part bs) ++ cut_lines more → cut_lines (b ∷ (whole_part bs ++ more)) ≡ cut_lines (b ∷ whole_part bs) ++ cut_lines more
+cut_more b bs more t e = elim (cases_Bool (b == 10)) [
+  | inl feed ↦ rw feed (ap (λ (ls : List (List ℕ)). [] ∷ ls) e)
+  | inr other ↦
+      let some = some_line bs (feed_later b bs t other) in
+      rw other (ap (with_first b) e ∙ first_append b (cut_lines (whole_part bs)) (cut_lines more) some.0 some.1 some.2)
+]
 
--- Before the bytes taken nothing was taken.
-pub splits_none : Splits [] [] []
-splits_none = record { joined = refl; each = tt; last = refl }
+-- Behind the last line feed a line begins.
+cut_whole : (bs more : List ℕ) → cut_lines (whole_part bs ++ more) ≡ cut_lines (whole_part bs) ++ cut_lines more
+cut_whole [] more = refl
+cut_whole (b ∷ bs) more = elim (cases_Bool (has_feed (b ∷ bs))) [
+  | inl t ↦
+      let w = whole_is b bs t in
+      ap (λ zs. cut_lines (zs ++ more)) w ∙ cut_more b bs more t (cut_whole bs more) ∙ sym (ap (λ zs. cut_lines zs ++ cut_lines more) w)
+  | inr f ↦
+      let w = whole_none b bs f in
+      ap (λ zs. cut_lines (zs ++ more)) w ∙ sym (ap (λ zs. cut_lines zs ++ cut_lines more) w)
+]
 
-pub all_push : {X : Type 0} (P : X → Type 0) (xs : List X) (x : X) → AllByRecursion P xs → P x → AllByRecursion P (xs ++ x ∷ [])
-all_push P [] x all here = (here, tt)
-all_push P (y ∷ ys) x all here = (all.0, all_push P ys x all.1 here)
+feeds_on : (bs more : List ℕ) → has_feed bs ≡ true → has_feed (whole_part bs ++ more) ≡ true
+feeds_on [] more t = absurd (cc)
+feeds_on (b ∷ bs) more t = ap (λ zs. has_feed (zs ++ more)) (whole_is b bs t) ∙ elim (cases_Bool (b == 10)) [
+  | inl feed ↦ ap (λ v. v || has_feed (whole_part bs ++ more)) feed
+  | inr other ↦ ap (λ v. v || has_feed (whole_part bs ++ more)) other ∙ feeds_on bs more (feed_later b bs t other)
+]
 
--- A line ends.
-pub splits_end : (taken : List ℕ) (ended : List (List ℕ)) (rest front : List ℕ) → Splits taken ended rest → HasNoFeed front → Splits (taken ++ (front ++ 10 ∷ [])) (ended ++ (rest ++ front) ∷ []) []
-splits_end taken ended rest front s none = record {
-  joined = rw (s.joined, flat_map-append) (simp (append_assoc, append-nil));
-  each = all_push HasNoFeed ended (rest ++ front) s.each (no_feed_append rest front s.last none);
-  last = refl;
-}
+whole_both : (bs more : List ℕ) → whole_part (whole_part bs ++ more) ≡ whole_part bs ++ whole_part more
+whole_both [] more = refl
+whole_both (b ∷ bs) more = elim (cases_Bool (has_feed (b ∷ bs))) [
+  | inl t ↦
+      let w = whole_is b bs t in
+      let feeds : has_feed (b ∷ (whole_part bs ++ more)) ≡ true = sym (ap (λ zs. has_feed (zs ++ more)) w) ∙ feeds_on (b ∷ bs) more t in
+      ap (λ zs. whole_part (zs ++ more)) w ∙ whole_is b (whole_part bs ++ more) feeds ∙ ap (λ zs. b ∷ zs) (whole_both bs more) ∙ sym (ap (λ zs. zs ++ whole_part more) w)
+  | inr f ↦
+      let w = whole_none b bs f in
+      ap (λ zs. whole_part (zs ++ more)) w ∙ sym (ap (λ zs. zs ++ whole_part more) w)
+]
 
--- The last line goes on.
-pub splits_more : (taken : List ℕ) (ended : List (List ℕ)) (rest front : List ℕ) → Splits taken ended rest → HasNoFeed front → Splits (taken ++ front) ended (rest ++ front)
-splits_more taken ended rest front s none = record {
-  joined = rw s.joined (append_assoc (flat_map with_feed ended) rest front);
-  each = s.each;
-  last = no_feed_append rest front s.last none;
-}
+-- Whatever follows, the lines of the whole part stay.
+pub lines_grow : (notes : Bool) (bs more : List ℕ) → (later : List (List ℕ)) × (lines_of notes (bs ++ more) ≡ lines_of notes (whole_part bs) ++ later)
+lines_grow notes bs more =
+    let rest = rest_part bs ++ more in (
+      lines_of notes rest,
+      ap (λ zs. lines_of notes (zs ++ more)) (parts bs)
+          ∙ ap (lines_of notes) (append_assoc (whole_part bs) (rest_part bs) more)
+          ∙ ap (map (line_of notes)) (cut_whole bs rest)
+          ∙ map-append (line_of notes) (cut_lines (whole_part bs)) (cut_lines rest),
+    )
 
--- Whatever follows, the cut_lines that have ended stay.
-pub splits_ahead : (taken : List ℕ) (ended : List (List ℕ)) (rest more : List ℕ) → Splits taken ended rest → cut_lines (taken ++ more) ≡ ended ++ cut_lines (rest ++ more)
-splits_ahead taken ended rest more s =
-    ap (λ bs. cut_lines (bs ++ more)) s.joined ∙ ap cut_lines (append_assoc (flat_map with_feed ended) rest more) ∙ lines_split ended (rest ++ more) s.each
+-- Lines that are known stay known.
+pub known_grow : (over notes : Bool) (bs more : List ℕ) → (later : List (List ℕ)) × (known_lines over notes (bs ++ more) ≡ known_lines false notes bs ++ later)
+known_grow true notes bs more = lines_grow notes bs more
+known_grow false notes bs more =
+    let rest = rest_part bs ++ more in (
+      lines_of notes (whole_part rest),
+      ap (λ zs. lines_of notes (whole_part (zs ++ more))) (parts bs)
+          ∙ ap (λ zs. lines_of notes (whole_part zs)) (append_assoc (whole_part bs) (rest_part bs) more)
+          ∙ ap (lines_of notes) (whole_both bs rest)
+          ∙ ap (map (line_of notes)) (cut_whole bs (whole_part rest))
+          ∙ map-append (line_of notes) (cut_lines (whole_part bs)) (cut_lines (whole_part rest)),
+    )
 
-pub splits_whole : (taken : List ℕ) (ended : List (List ℕ)) (rest : List ℕ) → Splits taken ended rest → cut_lines (whole_part taken) ≡ ended
-splits_whole taken ended rest s =
-    ap (λ bs. cut_lines (whole_part bs)) s.joined ∙ ap cut_lines (whole_split ended rest s.last ∙ sym (append-nil _)) ∙ lines_split ended [] s.each ∙ append-nil ended
+few_first : (b : ℕ) (lines : List (List ℕ)) → length (with_first b lines) ≤ 1 + length lines
+few_first b [] = omega arith
+few_first b (line ∷ lines) = omega arith
 
-pub splits_lines : (taken : List ℕ) (ended : List (List ℕ)) (rest : List ℕ) → Splits taken ended rest → cut_lines taken ≡ ended ++ last_line rest
-splits_lines taken ended rest s =
-    ap cut_lines s.joined ∙ lines_split ended rest s.each ∙ ap (λ ls. ended ++ ls) (lines_open rest s.last)
+few_cut : (bs : List ℕ) → length (cut_lines bs) ≤ length bs
+few_cut [] = omega arith
+few_cut (b ∷ bs) = elim (cases_Bool (b == 10)) [
+  | inl feed ↦ rw feed (omega (arith, few_cut bs))
+  | inr other ↦ rw other (omega (arith, few_cut bs, few_first b (cut_lines bs)))
+]
+
+few_whole : (bs : List ℕ) → length (whole_part bs) ≤ length bs
+few_whole bs = omega (arith, ap length (parts bs), length-append (whole_part bs) (rest_part bs))
+
+-- A stream has no more lines than bytes.
+pub few_known : (over notes : Bool) (bs : List ℕ) → length (known_lines over notes bs) ≤ length bs
+few_known true notes bs = omega (arith, length-map (cut_lines bs) (line_of notes), few_cut bs)
+few_known false notes bs = omega (arith, length-map (cut_lines (whole_part bs)) (line_of notes), few_cut (whole_part bs), few_whole bs)

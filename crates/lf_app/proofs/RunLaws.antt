@@ -1,29 +1,36 @@
 -- How a run ends, at each status.
 use Rattle.std.proofs.Common.{◌≡◌, ℕ, ◌+◌, ◌<◌, ◌≤◌, ◌⊎◌, inl, inr, Bool, true, false, ◌||◌, cond, List, [], ◌++◌, length, refl, sym, ◌∙◌, ap, arith, append_assoc, length-append, subst}
-use Rattle.std.specs.Prelude.{Option, Some, None}
+use Rattle.std.specs.Prelude.{Option, Some, None, Result, Ok, Err, IfOk, codes}
 use Rattle.std.proofs.lemmas.Bool.{cases_lt, cases_eq}
 use Rattle.std.proofs.lemmas.List.{append-nil}
+use Rattle.lf_stream.specs.Cut.{lines_of, whole_part}
+use Rattle.lf_stream.specs.Standing.{Stands, bytes_fed, is_finished, room_of, has_notes as may_have_notes}
+use Rattle.lf_stream.specs.declared.limits.TheConstants.{LEAST_ROOM}
+use Rattle.lf_stream.specs.declared.lines.Lines.{Lines as Cutter}
 use Rattle.lf_app.specs.declared.commands.Job.{Job}
 use Rattle.lf_io.specs.Faults.{Rose, HasCause}
 use Rattle.lf_io.specs.Moves.{Takes, Gets, IsAtEnd}
 use Rattle.lf_io.proofs.Parts.{gets_both, gets_none, takes_both, takes_none}
 use Rattle.lf_app.specs.declared.verdict.Verdict.{Verdict}
-use Rattle.lf_app.specs.declared.kept.Kept.{Kept}
 use Rattle.lf_app.specs.declared.report.Report.{Report}
-use Rattle.lf_app.specs.Lines.{cut_lines, whole_part}
-use Rattle.lf_app.specs.Verdicts.{AreVerdicts, out_text, err_text, any_listed}
+use Rattle.lf_app.specs.Verdicts.{AreVerdicts, has_notes, out_text, err_text, any_listed}
 use Rattle.lf_app.specs.declared.limits.TheConstants.{MOST_BYTES}
 use Rattle.lf_format.specs.Shape.{Shape}
 use Rattle.lf_app.specs.declared.commands.Command.{Command}
-use Rattle.lf_app.specs.declared.commands.Command.TheVariants.{Lines, Show, Refuse}
+use Rattle.lf_app.specs.declared.commands.Command.TheVariants.{Lines, Readable, Witness, Show, Refuse}
 use Rattle.lf_app.specs.declared.commands.Refusal.{Refusal}
-use Rattle.lf_app.specs.Outcome.{Outcome, refused, shown, outcome_of, HasOutcome}
+use Rattle.lf_app.specs.declared.commands.Refusal.TheVariants as refusals
+use Rattle.lf_compile.specs.declared.refused.Confusion.{Confusion}
+use Rattle.lf_core.specs.declared.memory.OutOfMemory.{OutOfMemory}
+use Rattle.std.specs.Fmt.{decimal}
+use Rattle.lf_app.specs.Outcome.{Outcome, shown, told_out, told_err, witness_text, refusal_text, refusal_status, outcome_of, HasOutcome}
+use Rattle.lf_app.specs.Commands.{TakesInput}
 use Rattle.lf_app.specs.Run.{IsFinal, IsCut, Reads, Front, IsSettled, IsCutStream, IsSinkFault, IsNoMemory, IsComplete}
-use Rattle.lf_app.specs.Promise.{KeepsLimit, Runs, Tells, Says}
-use Rattle.lf_app.specs.Progress.{IsLineJob, HasRead, Keeps, Reports, Grows, Finishes}
+use Rattle.lf_app.specs.Promise.{KeepsLimit, Runs, Tells, Says, TellsText}
+use Rattle.lf_app.specs.Progress.{CanWork, HasRead, Reports, Grows}
 use Rattle.lf_app.specs.Flush.{Follows}
-use Rattle.lf_app.proofs.LineLaws.{splits_ahead, splits_whole, splits_none}
-use Rattle.lf_app.proofs.VerdictLaws.{stream_verdicts, cut_verdicts, verdicts_front, out_append, err_append, listed_append}
+use Rattle.lf_app.proofs.LineLaws.{lines_grow}
+use Rattle.lf_app.proofs.VerdictLaws.{verdicts_front, out_append, err_append, listed_append}
 
 -- What was taken is a front of what the source had left.
 pub takes_front : (left later : Option (List ℕ)) (taken input : List ℕ) → left ≡ Some input → Takes left later taken → (rest : List ℕ) × (input ≡ taken ++ rest) × (later ≡ Some rest)
@@ -31,11 +38,12 @@ takes_front None later taken input e t = cc
 takes_front (Some xs) None taken input e t = absurd t
 takes_front (Some xs) (Some ys) taken input e t = (ys, cc, refl)
 
--- Each outcome of an input that begins with the bytes taken begins with what was found of them.
-pub outcome_goes_on : (job : Job) (kept : Kept) (taken more : List ℕ) (found : List Verdict) (o : Outcome) → IsLineJob job → HasRead job kept taken found → HasOutcome (Lines job) (taken ++ more) o → (later : List Verdict) × (o ≡ outcome_of job (found ++ later))
-outcome_goes_on job kept taken more found o one r has =
-    let verdicts = subst (λ (ls : List (List ℕ)). AreVerdicts job ls has.0) (splits_ahead taken r.ended r.rest more r.splits) (cut_verdicts job (taken ++ more) has.0 one.no_notes has.1) in
-    let later = verdicts_front job r.ended (cut_lines (r.rest ++ more)) found has.0 one.can r.verdicts verdicts in
+-- Each outcome of an input that begins with the bytes taken begins with what was found of their whole lines.
+pub outcome_goes_on : (job : Job) (lines : Cutter) (report : Report) (taken more : List ℕ) (found : List Verdict) (o : Outcome) → CanWork job → HasRead job false lines report taken found → HasOutcome (Lines job) (taken ++ more) o → (later : List Verdict) × (o ≡ outcome_of job (found ++ later))
+outcome_goes_on job lines report taken more found o can r has =
+    let grown = lines_grow (has_notes job) taken more in
+    let verdicts = subst (λ (ls : List (List ℕ)). AreVerdicts job ls has.0) grown.1 has.1 in
+    let later = verdicts_front job (lines_of (has_notes job) (whole_part taken)) grown.0 found has.0 can r.verdicts verdicts in
     (later.0, has.2 ∙ ap (outcome_of job) later.1)
 
 pub front_longer : (a b : List ℕ) (P : List ℕ → Type 0) → Front a P → Front (a ++ b) P
@@ -59,15 +67,15 @@ pub settled_never : (c : Command) (status : ℕ) (left later : Option (List ℕ)
 settled_never c status left later out err never = record { ends = λ final. absurd (never final); at_end = λ final. absurd (never final) }
 
 -- A run that stops short, by a sink or for want of memory, has written fronts.
-pub runs_short : (job : Job) (kept : Kept) (status : ℕ) (left now : Option (List ℕ)) (out err : List ℕ → Type 0) (taken more : List ℕ) (found : List Verdict) → IsLineJob job → HasRead job kept taken found → Takes left now (taken ++ more) → length (taken ++ more) ≤ MOST_BYTES → Front (out_text job found) out → Front (err_text 1 found) err → (status ≡ 5) ⊎ (status ≡ 6) → Runs (Lines job) status left now out err
-runs_short job kept status left now out err taken more found one r takes most p q is = record {
+pub runs_short : (job : Job) (lines : Cutter) (report : Report) (status : ℕ) (left now : Option (List ℕ)) (out err : List ℕ → Type 0) (taken more : List ℕ) (found : List Verdict) → CanWork job → HasRead job false lines report taken found → Takes left now (taken ++ more) → length (taken ++ more) ≤ MOST_BYTES → Front (out_text job found) out → Front (err_text 1 found) err → (status ≡ 5) ⊎ (status ≡ 6) → Runs (Lines job) status left now out err
+runs_short job lines report status left now out err taken more found can r takes most p q is = record {
   settled = settled_never (Lines job) status left now out err (λ final. omega (arith, is, final));
   reads = λ broken. absurd (omega (arith, is, broken));
   fronts = λ _ input reads o has. elim reads [
     | inl told ↦
         let rest = takes_front left now (taken ++ more) input told takes in
         let longer : input ≡ taken ++ (more ++ rest.0) = rest.1 ∙ append_assoc taken more rest.0 in
-        let later = outcome_goes_on job kept taken (more ++ rest.0) found o one r (subst (λ (w : List ℕ). HasOutcome (Lines job) w o) longer has) in
+        let later = outcome_goes_on job lines report taken (more ++ rest.0) found o can r (subst (λ (w : List ℕ). HasOutcome (Lines job) w o) longer has) in
         fronts_found job found later.0 o out err later.1 p q
     | inr none ↦ absurd (none tt)
   ];
@@ -83,48 +91,56 @@ front_more a b c xs ys zs p q is =
     (xs ++ q.0, (q.1.0, is ∙ ap (λ w. xs ++ w) q.1.1 ∙ sym (append_assoc xs q.0 q.1.0)), gets_both a b c xs q.0 p q.2)
 
 -- What an emptied report has, once it has grown.
-pub report_out : (job : Job) (old new : Report) (found more : List Verdict) → old.out ≡ [] → Reports job old new more → out_text job (found ++ more) ≡ out_text job found ++ new.out
+pub report_out : (job : Job) (old new : Report) (found more : List Verdict) → old.out ≡ [] → Reports job old new (length found + 1) more → out_text job (found ++ more) ≡ out_text job found ++ new.out
 report_out job old new found more none g = rw (g.out, none) (out_append job found more)
 
-pub report_err : (job : Job) (old new : Report) (found more : List Verdict) → old.err ≡ [] → old.count ≡ length found → Reports job old new more → err_text 1 (found ++ more) ≡ err_text 1 found ++ new.err
-report_err job old new found more none count g =
-    let here : old.count + 1 ≡ 1 + length found = omega (arith, count) in
+pub report_err : (job : Job) (old new : Report) (found more : List Verdict) → old.err ≡ [] → Reports job old new (length found + 1) more → err_text 1 (found ++ more) ≡ err_text 1 found ++ new.err
+report_err job old new found more none g =
+    let here : length found + 1 ≡ 1 + length found = omega arith in
     rw (g.err, none, here) (err_append 1 found more)
 
+pub report_listed : (job : Job) (old new : Report) (found more : List Verdict) → old.is_partial ≡ any_listed found → Reports job old new (length found + 1) more → new.is_partial ≡ any_listed (found ++ more)
+report_listed job old new found more listed g = g.listed ∙ ap (λ b. b || any_listed more) listed ∙ sym (listed_append found more)
+
+-- A report that is emptied stands where it stood.
+read_emptied : (job : Job) (lines : Cutter) (mid new : Report) (taken : List ℕ) (found : List Verdict) → new ≡ record mid { out = []; err = [] } → HasRead job false lines mid taken found → HasRead job false lines new taken found
+read_emptied job lines mid new taken found is r = record {
+  holds = record { notes = r.holds.notes; over_is = r.holds.over_is; stands = r.holds.stands; count = ap (λ (r : Report). r.count) is ∙ r.holds.count };
+  verdicts = r.verdicts;
+  room = r.room;
+}
+
 -- The next bytes are read and written.
-pub follows_piece : (job : Job) (kept next : Kept) (old mid new : Report) (total : ℕ) (left later now : Option (List ℕ)) (og o1 o2 eg e1 e2 : Option (List ℕ)) (piece : List ℕ) → (f : Follows job kept old total left later (Gets og o1) (Gets eg e1)) → Grows job next old mid (f.taken ++ piece) f.found → Takes later now piece → total + length piece ≤ MOST_BYTES → mid.count ≤ old.count + length piece → Gets o1 o2 mid.out → Gets e1 e2 mid.err → new ≡ record mid { out = []; err = [] } → Follows job next new (total + length piece) left now (Gets og o2) (Gets eg e2)
-follows_piece job kept next old mid new total left later now og o1 o2 eg e1 e2 piece f g takes most cut_lines p q is = record {
+pub follows_piece : (job : Job) (before after : Cutter) (old mid new : Report) (left later now : Option (List ℕ)) (og o1 o2 eg e1 e2 : Option (List ℕ)) (piece : List ℕ) → (f : Follows job before old left later (Gets og o1) (Gets eg e1)) → Grows job false after old mid (f.taken ++ piece) f.found → Takes later now piece → bytes_fed before + length piece ≤ MOST_BYTES → Gets o1 o2 mid.out → Gets e1 e2 mid.err → new ≡ record mid { out = []; err = [] } → Follows job after new left now (Gets og o2) (Gets eg e2)
+follows_piece job before after old mid new left later now og o1 o2 eg e1 e2 piece f g takes most p q is = record {
   taken = f.taken ++ piece;
   found = f.found ++ g.more;
-  read = g.read;
+  read = read_emptied job after mid new (f.taken ++ piece) (f.found ++ g.more) is g.read;
   takes = takes_both left later now f.taken piece f.takes takes;
-  is_total = omega (arith, f.is_total, length-append f.taken piece);
-  most = most;
-  count = ap (λ (r : Report). r.count) is ∙ omega (arith, g.reports.count, f.count, length-append f.found g.more);
-  lines = let same : new.count ≡ mid.count = ap (λ (r : Report). r.count) is in omega (arith, same, f.lines);
-  listed = ap (λ (r : Report). r.is_partial) is ∙ g.reports.listed ∙ ap (λ b. b || any_listed g.more) f.listed ∙ sym (listed_append f.found g.more);
+  most = omega (arith, f.read.holds.stands.fed, length-append f.taken piece, most);
+  listed = ap (λ (r : Report). r.is_partial) is ∙ report_listed job old mid f.found g.more f.listed g.reports;
   no_out = ap (λ (r : Report). r.out) is;
   no_err = ap (λ (r : Report). r.err) is;
   out = gets_more og o1 o2 (out_text job f.found) mid.out (out_text job (f.found ++ g.more)) f.out p (report_out job old mid f.found g.more f.no_out g.reports);
-  err = gets_more eg e1 e2 (err_text 1 f.found) mid.err (err_text 1 (f.found ++ g.more)) f.err q (report_err job old mid f.found g.more f.no_err f.count g.reports);
+  err = gets_more eg e1 e2 (err_text 1 f.found) mid.err (err_text 1 (f.found ++ g.more)) f.err q (report_err job old mid f.found g.more f.no_err g.reports);
 }
 
 -- There was no memory to read the next bytes.
-pub runs_memory : (job : Job) (kept : Kept) (report : Report) (total : ℕ) (left later now : Option (List ℕ)) (out err : List ℕ → Type 0) (piece : List ℕ) → IsLineJob job → Follows job kept report total left later out err → Takes later now piece → total + length piece ≤ MOST_BYTES → Runs (Lines job) 6 left now out err
-runs_memory job kept report total left later now out err piece one f takes most =
+pub runs_memory : (job : Job) (lines : Cutter) (report : Report) (left later now : Option (List ℕ)) (out err : List ℕ → Type 0) (piece : List ℕ) → CanWork job → Follows job lines report left later out err → Takes later now piece → bytes_fed lines + length piece ≤ MOST_BYTES → Runs (Lines job) 6 left now out err
+runs_memory job lines report left later now out err piece can f takes most =
     let all = takes_both left later now f.taken piece f.takes takes in
-    let fits : length (f.taken ++ piece) ≤ MOST_BYTES = omega (arith, f.is_total, length-append f.taken piece) in
-    runs_short job kept 6 left now out err f.taken piece f.found one f.read all fits (front_all (out_text job f.found) out f.out) (front_all (err_text 1 f.found) err f.err) (inr refl)
+    let fits : length (f.taken ++ piece) ≤ MOST_BYTES = omega (arith, f.read.holds.stands.fed, length-append f.taken piece, most) in
+    runs_short job lines report 6 left now out err f.taken piece f.found can f.read all fits (front_all (out_text job f.found) out f.out) (front_all (err_text 1 f.found) err f.err) (inr refl)
 
 -- A sink failed with what was found of the next bytes.
-pub runs_sink : (job : Job) (kept next : Kept) (old mid : Report) (total : ℕ) (left later now : Option (List ℕ)) (og o1 o2 eg e1 e2 : Option (List ℕ)) (piece : List ℕ) → IsLineJob job → (f : Follows job kept old total left later (Gets og o1) (Gets eg e1)) → Grows job next old mid (f.taken ++ piece) f.found → Takes later now piece → total + length piece ≤ MOST_BYTES → Front mid.out (Gets o1 o2) → Front mid.err (Gets e1 e2) → Runs (Lines job) 5 left now (Gets og o2) (Gets eg e2)
-runs_sink job kept next old mid total left later now og o1 o2 eg e1 e2 piece one f g takes most p q =
+pub runs_sink : (job : Job) (before after : Cutter) (old mid : Report) (left later now : Option (List ℕ)) (og o1 o2 eg e1 e2 : Option (List ℕ)) (piece : List ℕ) → CanWork job → (f : Follows job before old left later (Gets og o1) (Gets eg e1)) → Grows job false after old mid (f.taken ++ piece) f.found → Takes later now piece → bytes_fed before + length piece ≤ MOST_BYTES → Front mid.out (Gets o1 o2) → Front mid.err (Gets e1 e2) → Runs (Lines job) 5 left now (Gets og o2) (Gets eg e2)
+runs_sink job before after old mid left later now og o1 o2 eg e1 e2 piece can f g takes most p q =
     let all = takes_both left later now f.taken piece f.takes takes in
     let same : (f.taken ++ piece) ++ [] ≡ f.taken ++ piece = append-nil (f.taken ++ piece) in
-    let fits : length ((f.taken ++ piece) ++ []) ≤ MOST_BYTES = omega (arith, f.is_total, length-append f.taken piece, ap length same) in
-    runs_short job next 5 left now (Gets og o2) (Gets eg e2) (f.taken ++ piece) [] (f.found ++ g.more) one g.read (subst (Takes left now) (sym same) all) fits
+    let fits : length ((f.taken ++ piece) ++ []) ≤ MOST_BYTES = omega (arith, f.read.holds.stands.fed, length-append f.taken piece, ap length same, most) in
+    runs_short job after mid 5 left now (Gets og o2) (Gets eg e2) (f.taken ++ piece) [] (f.found ++ g.more) can g.read (subst (Takes left now) (sym same) all) fits
     (front_more og o1 o2 (out_text job f.found) mid.out (out_text job (f.found ++ g.more)) f.out p (report_out job old mid f.found g.more f.no_out g.reports))
-    (front_more eg e1 e2 (err_text 1 f.found) mid.err (err_text 1 (f.found ++ g.more)) f.err q (report_err job old mid f.found g.more f.no_err f.count g.reports))
+    (front_more eg e1 e2 (err_text 1 f.found) mid.err (err_text 1 (f.found ++ g.more)) f.err q (report_err job old mid f.found g.more f.no_err g.reports))
     (inl refl)
 
 -- At the end of the source nothing follows what was taken.
@@ -139,26 +155,26 @@ status_small true status is = omega (arith, is)
 status_small false status is = omega (arith, is)
 
 -- There was no memory to read the last line.
-pub runs_last_memory : (job : Job) (kept : Kept) (report : Report) (total : ℕ) (left later : Option (List ℕ)) (out err : List ℕ → Type 0) → IsLineJob job → Follows job kept report total left later out err → Runs (Lines job) 6 left later out err
-runs_last_memory job kept report total left later out err one f =
-    runs_memory job kept report total left later later out err [] one f (takes_none later) (omega (arith, f.most))
+pub runs_last_memory : (job : Job) (lines : Cutter) (report : Report) (left later : Option (List ℕ)) (out err : List ℕ → Type 0) → CanWork job → Follows job lines report left later out err → Runs (Lines job) 6 left later out err
+runs_last_memory job lines report left later out err can f =
+    runs_memory job lines report left later later out err [] can f (takes_none later) (omega (arith, f.read.holds.stands.fed, f.most))
 
 -- The run has come to its end.
-pub runs_end : (job : Job) (kept : Kept) (old mid : Report) (total status : ℕ) (left later : Option (List ℕ)) (og o1 o2 eg e1 e2 : Option (List ℕ)) → IsLineJob job → (f : Follows job kept old total left later (Gets og o1) (Gets eg e1)) → Finishes job old mid f.taken f.found → total < MOST_BYTES → IsAtEnd later → Gets o1 o2 mid.out → Gets e1 e2 mid.err → status ≡ cond mid.is_partial 3 0 → Runs (Lines job) status left later (Gets og o2) (Gets eg e2)
-runs_end job kept old mid total status left later og o1 o2 eg e1 e2 plain f g room end p q is =
+pub runs_end : (job : Job) (before after : Cutter) (old mid : Report) (status : ℕ) (left later : Option (List ℕ)) (og o1 o2 eg e1 e2 : Option (List ℕ)) → (f : Follows job before old left later (Gets og o1) (Gets eg e1)) → Grows job true after old mid f.taken f.found → bytes_fed before < MOST_BYTES → IsAtEnd later → Gets o1 o2 mid.out → Gets e1 e2 mid.err → status ≡ cond mid.is_partial 3 0 → Runs (Lines job) status left later (Gets og o2) (Gets eg e2)
+runs_end job before after old mid status left later og o1 o2 eg e1 e2 f g room end p q is =
     let all = f.found ++ g.more in
     let small : status ≤ 3 = status_small mid.is_partial status is in
-    let partial : mid.is_partial ≡ any_listed all = g.reports.listed ∙ ap (λ b. b || any_listed g.more) f.listed ∙ sym (listed_append f.found g.more) in
+    let partial : mid.is_partial ≡ any_listed all = report_listed job old mid f.found g.more f.listed g.reports in
     record {
       settled = record {
         ends = λ _ input reads. elim reads [
           | inl told ↦
               let same : input ≡ f.taken = input_is left later f.taken input told f.takes end in record {
                 outcome = outcome_of job all;
-                has = (all, stream_verdicts job input all plain.no_notes (subst (λ (w : List ℕ). AreVerdicts job (cut_lines w) all) (sym same) g.verdicts), refl);
+                has = (all, subst (λ (w : List ℕ). AreVerdicts job (lines_of (has_notes job) w) all) (sym same) g.read.verdicts, refl);
                 status_is = is ∙ ap (λ (b : Bool). cond b 3 0) partial;
                 wrote_out = gets_more og o1 o2 (out_text job f.found) mid.out (out_text job all) f.out p (report_out job old mid f.found g.more f.no_out g.reports);
-                wrote_err = gets_more eg e1 e2 (err_text 1 f.found) mid.err (err_text 1 all) f.err q (report_err job old mid f.found g.more f.no_err f.count g.reports);
+                wrote_err = gets_more eg e1 e2 (err_text 1 f.found) mid.err (err_text 1 all) f.err q (report_err job old mid f.found g.more f.no_err g.reports);
               }
           | inr none ↦ absurd (none tt)
         ];
@@ -169,37 +185,38 @@ runs_end job kept old mid total status left later og o1 o2 eg e1 e2 plain f g ro
       limit = record {
         taken = f.taken;
         takes = f.takes;
-        most = omega (arith, f.is_total, f.most);
-        full = λ e. absurd (omega (arith, f.is_total, room, e));
+        most = f.most;
+        full = λ e. absurd (omega (arith, f.read.holds.stands.fed, room, e));
         endless = λ e. absurd (omega (arith, e, small));
         whole_lines = λ broken. absurd (omega (arith, broken, small));
       };
     }
 
 -- A sink failed with what was found of the last line.
-pub runs_last_sink : (job : Job) (kept : Kept) (old mid : Report) (total : ℕ) (left later : Option (List ℕ)) (og o1 o2 eg e1 e2 : Option (List ℕ)) → IsLineJob job → (f : Follows job kept old total left later (Gets og o1) (Gets eg e1)) → Finishes job old mid f.taken f.found → IsAtEnd later → Front mid.out (Gets o1 o2) → Front mid.err (Gets e1 e2) → Runs (Lines job) 5 left later (Gets og o2) (Gets eg e2)
-runs_last_sink job kept old mid total left later og o1 o2 eg e1 e2 one f g end p q =
+pub runs_last_sink : (job : Job) (before after : Cutter) (old mid : Report) (left later : Option (List ℕ)) (og o1 o2 eg e1 e2 : Option (List ℕ)) → CanWork job → (f : Follows job before old left later (Gets og o1) (Gets eg e1)) → Grows job true after old mid f.taken f.found → IsAtEnd later → Front mid.out (Gets o1 o2) → Front mid.err (Gets e1 e2) → Runs (Lines job) 5 left later (Gets og o2) (Gets eg e2)
+runs_last_sink job before after old mid left later og o1 o2 eg e1 e2 can f g end p q =
     let all = f.found ++ g.more in
+    let lines = lines_of (has_notes job) f.taken in
     let out : Front (out_text job all) (Gets og o2) = front_more og o1 o2 (out_text job f.found) mid.out (out_text job all) f.out p (report_out job old mid f.found g.more f.no_out g.reports) in
-    let err : Front (err_text 1 all) (Gets eg e2) = front_more eg e1 e2 (err_text 1 f.found) mid.err (err_text 1 all) f.err q (report_err job old mid f.found g.more f.no_err f.count g.reports) in
+    let err : Front (err_text 1 all) (Gets eg e2) = front_more eg e1 e2 (err_text 1 f.found) mid.err (err_text 1 all) f.err q (report_err job old mid f.found g.more f.no_err g.reports) in
     record {
       settled = settled_never (Lines job) 5 left later (Gets og o2) (Gets eg e2) (λ final. omega (arith, final));
       reads = λ broken. absurd (omega (arith, broken));
       fronts = λ _ input reads o has. elim reads [
         | inl told ↦
             let same : input ≡ f.taken = input_is left later f.taken input told f.takes end in
-            let verdicts : AreVerdicts job (cut_lines f.taken ++ []) has.0 = subst (λ (ls : List (List ℕ)). AreVerdicts job ls has.0) (ap cut_lines same ∙ sym (append-nil (cut_lines f.taken))) (cut_verdicts job input has.0 one.no_notes has.1) in
-            let later = verdicts_front job (cut_lines f.taken) [] all has.0 one.can g.verdicts verdicts in
-            fronts_found job all later.0 o (Gets og o2) (Gets eg e2) (has.2 ∙ ap (outcome_of job) later.1) out err
+            let verdicts : AreVerdicts job (lines ++ []) has.0 = subst (λ (ls : List (List ℕ)). AreVerdicts job ls has.0) (ap (lines_of (has_notes job)) same ∙ sym (append-nil lines)) has.1 in
+            let rest = verdicts_front job lines [] all has.0 can g.read.verdicts verdicts in
+            fronts_found job all rest.0 o (Gets og o2) (Gets eg e2) (has.2 ∙ ap (outcome_of job) rest.1) out err
         | inr none ↦ absurd (none tt)
       ];
-      limit = record { taken = f.taken; takes = f.takes; most = omega (arith, f.is_total, f.most); full = λ _. inl refl; endless = λ e. absurd (omega (arith, e)); whole_lines = λ broken. absurd (omega (arith, broken)) };
+      limit = record { taken = f.taken; takes = f.takes; most = f.most; full = λ _. inl refl; endless = λ e. absurd (omega (arith, e)); whole_lines = λ broken. absurd (omega (arith, broken)) };
     }
 
 -- The source failed, or as many bytes were taken as a run takes.
-pub runs_broken : (job : Job) (kept : Kept) (report : Report) (total status : ℕ) (left later : Option (List ℕ)) (out err : List ℕ → Type 0) → IsLineJob job → Follows job kept report total left later out err → ((status ≡ 4) × (total < MOST_BYTES)) ⊎ ((status ≡ 8) × (MOST_BYTES ≤ total)) → Runs (Lines job) status left later out err
-runs_broken job kept report total status left later out err plain f is =
-    let verdicts = subst (λ (ls : List (List ℕ)). AreVerdicts job ls f.found) (sym (splits_whole f.taken f.read.ended f.read.rest f.read.splits)) f.read.verdicts in
+pub runs_broken : (job : Job) (lines : Cutter) (report : Report) (status : ℕ) (left later : Option (List ℕ)) (out err : List ℕ → Type 0) → Follows job lines report left later out err → ((status ≡ 4) × (bytes_fed lines < MOST_BYTES)) ⊎ ((status ≡ 8) × (MOST_BYTES ≤ bytes_fed lines)) → Runs (Lines job) status left later out err
+runs_broken job lines report status left later out err f is =
+    let fed = f.read.holds.stands.fed in
     record {
       settled = settled_never (Lines job) status left later out err (λ final. omega (arith, is, final));
       reads = λ _. tt;
@@ -207,12 +224,12 @@ runs_broken job kept report total status left later out err plain f is =
       limit = record {
         taken = f.taken;
         takes = f.takes;
-        most = omega (arith, f.is_total, f.most);
-        full = λ e. elim is [ inl four ↦ absurd (omega (arith, f.is_total, four, e)) | inr eight ↦ inr (inr eight.0) ];
-        endless = λ e. omega (arith, is, e, f.is_total, f.most);
+        most = f.most;
+        full = λ e. elim is [ inl four ↦ absurd (omega (arith, fed, four, e)) | inr eight ↦ inr (inr eight.0) ];
+        endless = λ e. omega (arith, is, e, fed, f.most);
         whole_lines = λ _. record {
           outcome = outcome_of job f.found;
-          has = (f.found, stream_verdicts job (whole_part f.taken) f.found plain.no_notes verdicts, refl);
+          has = (f.found, f.read.verdicts, refl);
           wrote_out = f.out;
           wrote_err = f.err;
         };
@@ -220,16 +237,13 @@ runs_broken job kept report total status left later out err plain f is =
     }
 
 -- A run begins.
-pub follows_none : (job : Job) (kept : Kept) (report : Report) (left og eg : Option (List ℕ)) → Keeps kept [] → report.count ≡ 0 → report.is_partial ≡ false → report.out ≡ [] → report.err ≡ [] → Follows job kept report 0 left left (Gets og og) (Gets eg eg)
-follows_none job kept report left og eg keeps count partial out err = record {
+pub follows_none : (job : Job) (lines : Cutter) (report : Report) (left og eg : Option (List ℕ)) → Stands lines [] 0 → may_have_notes lines ≡ has_notes job → is_finished lines ≡ false → LEAST_ROOM ≤ room_of lines → report.count ≡ 0 → report.is_partial ≡ false → report.out ≡ [] → report.err ≡ [] → Follows job lines report left left (Gets og og) (Gets eg eg)
+follows_none job lines report left og eg stands notes unended room count partial out err = record {
   taken = [];
   found = [];
-  read = record { ended = []; rest = []; splits = splits_none; verdicts = tt; keeps = keeps };
+  read = record { holds = record { notes = notes; over_is = unended; stands = stands; count = count }; verdicts = tt; room = room };
   takes = takes_none left;
-  is_total = refl;
   most = omega arith;
-  count = count;
-  lines = omega (arith, count);
   listed = partial;
   no_out = out;
   no_err = err;
@@ -238,16 +252,13 @@ follows_none job kept report left og eg keeps count partial out err = record {
 }
 
 -- A pull that takes nothing.
-pub follows_pull : (job : Job) (kept : Kept) (report : Report) (total : ℕ) (left later now : Option (List ℕ)) (out err : List ℕ → Type 0) → Follows job kept report total left later out err → Takes later now [] → Follows job kept report total left now out err
-follows_pull job kept report total left later now out err f none = record {
+pub follows_pull : (job : Job) (lines : Cutter) (report : Report) (left later now : Option (List ℕ)) (out err : List ℕ → Type 0) → Follows job lines report left later out err → Takes later now [] → Follows job lines report left now out err
+follows_pull job lines report left later now out err f none = record {
   taken = f.taken;
   found = f.found;
   read = f.read;
   takes = subst (Takes left now) (append-nil f.taken) (takes_both left later now f.taken [] f.takes none);
-  is_total = f.is_total;
   most = f.most;
-  count = f.count;
-  lines = f.lines;
   listed = f.listed;
   no_out = f.no_out;
   no_err = f.no_err;
@@ -260,10 +271,6 @@ at_end_later None None end none = tt
 at_end_later None (Some ys) end none = absurd none
 at_end_later (Some xs) None end none = absurd none
 at_end_later (Some xs) (Some ys) end none = sym none ∙ end
-
--- The same count of bytes, written otherwise.
-pub follows_total : (job : Job) (kept : Kept) (report : Report) (a b : ℕ) (left later : Option (List ℕ)) (out err : List ℕ → Type 0) → a ≡ b → Follows job kept report a left later out err → Follows job kept report b left later out err
-follows_total job kept report a b left later out err is f = subst (λ (n : ℕ). Follows job kept report n left later out err) is f
 
 pub front_none : (text : List ℕ) (o : Option (List ℕ)) → Front text (Gets o o)
 front_none text o = ([], (text, refl), gets_none o)
@@ -288,43 +295,94 @@ runs_nothing c left o e = record {
   limit = limit_none c 6 left (Gets o o) (Gets e e) (λ broken. omega (arith, broken));
 }
 
--- The format was shown.
-pub runs_shown : (format : Shape) (status : ℕ) (left e : Option (List ℕ)) (text : List ℕ) (out : List ℕ → Type 0) → text ≡ (shown format).out → Says 0 status text out → (status ≡ 0) ⊎ (status ≡ 5) → Runs (Show format) status left left out (Gets e e)
-runs_shown format status left e text out is says known = record {
-  settled = record {
-    ends = λ final input reads.
-        let none : status ≡ 0 = elim known [ inl zero ↦ zero | inr five ↦ absurd (omega (arith, final, five)) ] in record {
-          outcome = shown format;
-          has = refl;
-          status_is = none;
-          wrote_out = subst out is (says.whole none);
-          wrote_err = gets_none e;
-        };
-    at_end = λ final takes. absurd takes;
-  };
-  reads = λ broken. absurd (omega (arith, broken, known));
-  fronts = λ _ input reads outcome has. (subst (λ (w : Outcome). Front w.out out) (sym has) (subst (λ (w : List ℕ). Front w out) is says.part), front_none outcome.err e);
-  limit = limit_none (Show format) status left out (Gets e e) (λ broken. omega (arith, broken, known));
+-- What a command that takes no input has as its one outcome.
+pub record IsTold (c : Command) (o : Outcome) : Type 0 where
+  pub has : (input : List ℕ) → HasOutcome c input o
+  pub only : (input : List ℕ) (other : Outcome) → HasOutcome c input other → other ≡ o
+  pub takes_none : TakesInput c → ⊥
+  pub good : (o.status ≤ 3) ⊎ (o.status ≡ 7)
+
+-- The text was written on `out`.
+runs_said_out : (c : Command) (o : Outcome) (status : ℕ) (left e : Option (List ℕ)) (out : List ℕ → Type 0) → IsTold c o → o.err ≡ [] → Says o.status status o.out out → (status ≡ o.status) ⊎ (status ≡ 5) → Runs c status left left out (Gets e e)
+runs_said_out c o status left e out told none says known =
+    let good = told.good in record {
+      settled = record {
+        ends = λ final input reads.
+            let same : status ≡ o.status = elim known [ inl same ↦ same | inr five ↦ absurd (omega (arith, final, five)) ] in record {
+              outcome = o;
+              has = told.has input;
+              status_is = same;
+              wrote_out = says.whole same;
+              wrote_err = subst (Gets e e) (sym none) (gets_none e);
+            };
+        at_end = λ final takes. absurd (told.takes_none takes);
+      };
+      reads = λ broken. absurd (omega (arith, broken, known, good));
+      fronts = λ _ input reads outcome has. (subst (λ (w : Outcome). Front w.out out) (sym (told.only input outcome has)) says.part, front_none outcome.err e);
+      limit = limit_none c status left out (Gets e e) (λ broken. omega (arith, broken, known, good));
+    }
+
+-- The text was written on `err`.
+runs_said_err : (c : Command) (o : Outcome) (status : ℕ) (left f : Option (List ℕ)) (err : List ℕ → Type 0) → IsTold c o → o.out ≡ [] → Says o.status status o.err err → (status ≡ o.status) ⊎ (status ≡ 5) → Runs c status left left (Gets f f) err
+runs_said_err c o status left f err told none says known =
+    let good = told.good in record {
+      settled = record {
+        ends = λ final input reads.
+            let same : status ≡ o.status = elim known [ inl same ↦ same | inr five ↦ absurd (omega (arith, final, five)) ] in record {
+              outcome = o;
+              has = told.has input;
+              status_is = same;
+              wrote_out = subst (Gets f f) (sym none) (gets_none f);
+              wrote_err = says.whole same;
+            };
+        at_end = λ final takes. absurd (told.takes_none takes);
+      };
+      reads = λ broken. absurd (omega (arith, broken, known, good));
+      fronts = λ _ input reads outcome has. (front_none outcome.out f, subst (λ (w : Outcome). Front w.err err) (sym (told.only input outcome has)) says.part);
+      limit = limit_none c status left (Gets f f) err (λ broken. omega (arith, broken, known, good));
+    }
+
+front_nothing : (text : List ℕ) (appended : List ℕ → Type 0) → appended [] → Front text appended
+front_nothing text appended none = ([], (text, refl), none)
+
+-- There was no memory for a text, and nothing was written.
+runs_untold : (c : Command) (left : Option (List ℕ)) (out err : List ℕ → Type 0) → out [] → err [] → Runs c 6 left left out err
+runs_untold c left out err no_out no_err = record {
+  settled = settled_never c 6 left left out err (λ final. omega (arith, final));
+  reads = λ broken. absurd (omega (arith, broken));
+  fronts = λ _ input reads outcome has. (front_nothing outcome.out out no_out, front_nothing outcome.err err no_err);
+  limit = limit_none c 6 left out err (λ broken. omega (arith, broken));
 }
 
--- The command was refused.
-pub runs_refused : (refusal : Refusal) (status : ℕ) (left o : Option (List ℕ)) (text : List ℕ) (err : List ℕ → Type 0) → text ≡ (refused 2 refusal).err → Says 2 status text err → (status ≡ 2) ⊎ (status ≡ 5) → Runs (Refuse refusal) status left left (Gets o o) err
-runs_refused refusal status left o text err is says known = record {
-  settled = record {
-    ends = λ final input reads.
-        let two : status ≡ 2 = elim known [ inl two ↦ two | inr five ↦ absurd (omega (arith, final, five)) ] in record {
-          outcome = refused 2 refusal;
-          has = refl;
-          status_is = two;
-          wrote_out = gets_none o;
-          wrote_err = subst err is (says.whole two);
-        };
-    at_end = λ final takes. absurd takes;
-  };
-  reads = λ broken. absurd (omega (arith, broken, known));
-  fronts = λ _ input reads outcome has. (front_none outcome.out o, subst (λ (w : Outcome). Front w.err err) (sym has) (subst (λ (w : List ℕ). Front w err) is says.part));
-  limit = limit_none (Refuse refusal) status left (Gets o o) err (λ broken. omega (arith, broken, known));
-}
+-- A text was told on `out`, where there was memory for it.
+pub runs_text_out : (c : Command) (o : Outcome) (status : ℕ) (left e : Option (List ℕ)) (text : Result (List ℕ) OutOfMemory) (out : List ℕ → Type 0) → IsTold c o → o.err ≡ [] → IfOk text (λ t. t ≡ o.out) → TellsText o.status status text out → Runs c status left left out (Gets e e)
+runs_text_out c o status left e (Ok text) out told none is says = runs_said_out c o status left e out told none (subst (λ (t : List ℕ). Says o.status status t out) is says.0) says.1
+runs_text_out c o status left e (Err memory) out told none is says = subst (λ (s : ℕ). Runs c s left left out (Gets e e)) (sym says.0) (runs_untold c left out (Gets e e) says.1 (gets_none e))
+
+-- A text was told on `err`, where there was memory for it.
+pub runs_text_err : (c : Command) (o : Outcome) (status : ℕ) (left f : Option (List ℕ)) (text : Result (List ℕ) OutOfMemory) (err : List ℕ → Type 0) → IsTold c o → o.out ≡ [] → IfOk text (λ t. t ≡ o.err) → TellsText o.status status text err → Runs c status left left (Gets f f) err
+runs_text_err c o status left f (Ok text) err told none is says = runs_said_err c o status left f err told none (subst (λ (t : List ℕ). Says o.status status t err) is says.0) says.1
+runs_text_err c o status left f (Err memory) err told none is says = subst (λ (s : ℕ). Runs c s left left (Gets f f) err) (sym says.0) (runs_untold c left (Gets f f) err (gets_none f) says.1)
+
+pub told_readable : (slots : ℕ) → IsTold (Readable slots) (told_out 0 (codes "readable " ++ decimal slots))
+told_readable slots = record { has = λ input. refl; only = λ input other h. h; takes_none = λ h. h; good = inl (omega arith) }
+
+pub told_witness : (confusion : Confusion) → IsTold (Witness confusion) (told_out 1 (witness_text confusion))
+told_witness confusion = record { has = λ input. refl; only = λ input other h. h; takes_none = λ h. h; good = inl (omega arith) }
+
+pub told_shown : (format : Shape) → IsTold (Show format) (shown format)
+told_shown format = record { has = λ input. refl; only = λ input other h. h; takes_none = λ h. h; good = inl (omega arith) }
+
+good_status : (refusal : Refusal) → (refusal_status refusal ≤ 3) ⊎ (refusal_status refusal ≡ 7)
+good_status refusals.BadWords = inl (omega arith)
+good_status (refusals.BadFormat place cause) = inl (omega arith)
+good_status refusals.NotBuilt = inl (omega arith)
+good_status (refusals.TooLarge size) = inr refl
+good_status (refusals.NoteLine rec) = inl (omega arith)
+good_status (refusals.Confused confusion) = inl (omega arith)
+
+pub told_refused : (refusal : Refusal) → IsTold (Refuse refusal) (told_err (refusal_status refusal) (refusal_text refusal))
+told_refused refusal = record { has = λ input. refl; only = λ input other h. h; takes_none = λ h. h; good = good_status refusal }
 
 -- Each clause of a run is a part of what the run does.
 pub cut_part : (c : Command) (status : ℕ) (left later : Option (List ℕ)) (s0 s1 o0 o1 e0 e1 : ℕ) (out err : List ℕ → Type 0) → Runs c status left later out err → Tells status s0 s1 o0 o1 e0 e1 → IsCutStream c status left later s0 s1 out err
@@ -379,16 +437,26 @@ complete_part c status left later s0 s1 o0 o1 e0 e1 out err r t no_s no_o no_e =
 pub tells_nothing : (s o e : ℕ) → Tells 6 s s o o e e
 tells_nothing s o e = record { source = λ h. absurd (omega (arith, h)); sink = λ h. absurd (omega (arith, h)); known = omega arith }
 
-pub tells_out : (good status s e o0 o1 : ℕ) → good < 4 → HasCause o0 o1 (status ≡ 5) → (status ≡ good) ⊎ (status ≡ 5) → Tells status s s o0 o1 e e
-tells_out good status s e o0 o1 small cause known = record {
-  source = λ h. absurd (omega (arith, h, known, small));
-  sink = λ h. inl (cause.cause h);
-  known = omega (arith, known, small);
-}
+-- Where a text was told on a sink, its fault alone may have come.
+told_known : (good status : ℕ) (text : Result (List ℕ) OutOfMemory) (appended : List ℕ → Type 0) → (good ≤ 3) ⊎ (good ≡ 7) → TellsText good status text appended → (status ≤ 3) ⊎ (status ≡ 7) ⊎ (status ≡ 5) ⊎ (status ≡ 6)
+told_known good status (Ok text) appended g says = elim says.1 [
+  | inl same ↦ elim g [ inl low ↦ inl (omega (arith, same, low)) | inr seven ↦ inr (inl (same ∙ seven)) ]
+  | inr five ↦ inr (inr (inl five))
+]
+told_known good status (Err memory) appended g says = inr (inr (inr says.0))
 
-pub tells_err : (good status s o e0 e1 : ℕ) → good < 4 → HasCause e0 e1 (status ≡ 5) → (status ≡ good) ⊎ (status ≡ 5) → Tells status s s o o e0 e1
-tells_err good status s o e0 e1 small cause known = record {
-  source = λ h. absurd (omega (arith, h, known, small));
-  sink = λ h. inr (cause.cause h);
-  known = omega (arith, known, small);
-}
+pub tells_out : (good status s e o0 o1 : ℕ) (text : Result (List ℕ) OutOfMemory) (out : List ℕ → Type 0) → (good ≤ 3) ⊎ (good ≡ 7) → TellsText good status text out → HasCause o0 o1 (status ≡ 5) → Tells status s s o0 o1 e e
+tells_out good status s e o0 o1 text out g says cause =
+    let known = told_known good status text out g says in record {
+      source = λ h. absurd (omega (arith, h, known));
+      sink = λ h. inl (cause.cause h);
+      known = omega (arith, known);
+    }
+
+pub tells_err : (good status s o e0 e1 : ℕ) (text : Result (List ℕ) OutOfMemory) (err : List ℕ → Type 0) → (good ≤ 3) ⊎ (good ≡ 7) → TellsText good status text err → HasCause e0 e1 (status ≡ 5) → Tells status s s o o e0 e1
+tells_err good status s o e0 e1 text err g says cause =
+    let known = told_known good status text err g says in record {
+      source = λ h. absurd (omega (arith, h, known));
+      sink = λ h. inr (cause.cause h);
+      known = omega (arith, known);
+    }

@@ -1,71 +1,69 @@
 -- The verdicts of lines, and the texts of what was found.
-use Rattle.std.proofs.Common.{◌≡◌, ℕ, suc, ◌+◌, Bool, true, false, ◌||◌, ◌&&◌, List, [], ◌∷◌, ◌++◌, length, refl, sym, ap, arith, append_assoc, length-append, add-zero, subst}
+use Rattle.std.proofs.Common.{◌≡◌, ℕ, suc, ◌+◌, Bool, true, false, ◌||◌, List, [], ◌∷◌, ◌++◌, length, refl, sym, ap, arith, append_assoc, add-zero}
 use Rattle.std.proofs.lemmas.List.{append-nil}
 use Rattle.std.proofs.lemmas.List.Concat.{flat_map-append}
+use Rattle.lf_stream.specs.Sorts.{sort_of}
+use Rattle.lf_stream.specs.declared.marks.Sort.{Sort}
+use Rattle.lf_stream.specs.declared.marks.Sort.TheVariants as sort
 use Rattle.lf_app.specs.declared.commands.Job.{Job}
 use Rattle.lf_app.specs.declared.verdict.Verdict.{Verdict}
 use Rattle.lf_app.specs.declared.verdict.Verdict.TheVariants.{Note, Long, Found}
 use Rattle.lf_app.specs.declared.verdict.Finding.{Finding}
 use Rattle.lf_app.specs.declared.verdict.Finding.TheVariants.{Read, Unread, Written, Bad}
-use Rattle.lf_app.specs.declared.commands.Work.{Work}
-use Rattle.lf_app.specs.declared.commands.Work.TheVariants as work
-use Rattle.lf_format.specs.Shape.{Shape}
+use Rattle.lf_app.specs.declared.commands.Job.TheVariants as jobs
 use Rattle.std.specs.Prelude.{Ok, Err}
 use Rattle.lf_json.proofs.OneReading.{one_reading}
 use Rattle.lf_app.specs.declared.report.Report.{Report}
 use Rattle.lf_app.specs.Progress.{CanWork, Reports}
-use Rattle.lf_app.specs.Lines.{lines_of, cut_lines}
 use Rattle.lf_app.proofs.Equality.{same_record}
-use Rattle.lf_app.specs.Verdicts.{has_hash, has_notes, is_note, IsFound, IsVerdict, AreVerdicts, out_of, err_of, out_text, err_text, is_listed, any_listed}
+use Rattle.lf_app.specs.Verdicts.{has_notes, IsFound, IsVerdict, AreVerdicts, out_of, err_of, out_text, err_text, is_listed, any_listed}
 
-pub not_both : (b : Bool) → b ≡ true → b ≡ false → ⊥
-not_both b p q = cc
+-- A line is of one sort.
+note_or_long : (s : Sort) → s ≡ sort.Note → s ≡ sort.Long → ⊥
+note_or_long s p q = cc
+
+note_or_line : (s : Sort) → s ≡ sort.Note → s ≡ sort.Line → ⊥
+note_or_line s p q = cc
+
+long_or_line : (s : Sort) → s ≡ sort.Long → s ≡ sort.Line → ⊥
+long_or_line s p q = cc
 
 -- What is found of a line is one thing.
-one_finding : (work : Work) (format : Shape) (line : List ℕ) (f g : Finding) → CanWork work format.pieces → IsFound work format line f → IsFound work format line g → f ≡ g
-one_finding work.Read format line (Read r) (Read s) can p q = ap Read (same_record r s (λ differ. can.1 r s line (record { left = p; right = q; differ = differ })))
-one_finding work.Read format line (Read r) Unread can p q = absurd (q r p)
-one_finding work.Read format line Unread (Read s) can p q = absurd (p s q)
-one_finding work.Read format line Unread Unread can p q = refl
-one_finding work.Read format line (Written r) g can p q = absurd p
-one_finding work.Read format line (Bad bad) g can p q = absurd p
-one_finding work.Read format line f (Written s) can p q = absurd q
-one_finding work.Read format line f (Bad bad) can p q = absurd q
-one_finding work.Write format line (Written r) (Written s) can p q = let same = one_reading format.pieces line (Ok r) (Ok s) p q in cc
-one_finding work.Write format line (Written r) (Bad bad) can p q = let same = one_reading format.pieces line (Ok r) (Err bad) p q in cc
-one_finding work.Write format line (Bad bad) (Written s) can p q = let same = one_reading format.pieces line (Err bad) (Ok s) p q in cc
-one_finding work.Write format line (Bad bad) (Bad other) can p q = let same = one_reading format.pieces line (Err bad) (Err other) p q in cc
-one_finding work.Write format line (Read r) g can p q = absurd p
-one_finding work.Write format line Unread g can p q = absurd p
-one_finding work.Write format line f (Read s) can p q = absurd q
-one_finding work.Write format line f Unread can p q = absurd q
+one_finding : (job : Job) (line : List ℕ) (f g : Finding) → CanWork job → IsFound job line f → IsFound job line g → f ≡ g
+one_finding (jobs.Read format) line (Read r) (Read s) can p q = ap Read (same_record r s (λ differ. can r s line (record { left = p; right = q; differ = differ })))
+one_finding (jobs.Read format) line (Read r) Unread can p q = absurd (q r p)
+one_finding (jobs.Read format) line Unread (Read s) can p q = absurd (p s q)
+one_finding (jobs.Read format) line Unread Unread can p q = refl
+one_finding (jobs.Read format) line (Written r) g can p q = absurd p
+one_finding (jobs.Read format) line (Bad bad) g can p q = absurd p
+one_finding (jobs.Read format) line f (Written s) can p q = absurd q
+one_finding (jobs.Read format) line f (Bad bad) can p q = absurd q
+one_finding (jobs.Write format) line (Written r) (Written s) can p q = let same = one_reading format.pieces line (Ok r) (Ok s) p q in cc
+one_finding (jobs.Write format) line (Written r) (Bad bad) can p q = let same = one_reading format.pieces line (Ok r) (Err bad) p q in cc
+one_finding (jobs.Write format) line (Bad bad) (Written s) can p q = let same = one_reading format.pieces line (Err bad) (Ok s) p q in cc
+one_finding (jobs.Write format) line (Bad bad) (Bad other) can p q = let same = one_reading format.pieces line (Err bad) (Err other) p q in cc
+one_finding (jobs.Write format) line (Read r) g can p q = absurd p
+one_finding (jobs.Write format) line Unread g can p q = absurd p
+one_finding (jobs.Write format) line f (Read s) can p q = absurd q
+one_finding (jobs.Write format) line f Unread can p q = absurd q
 
 -- A line has one verdict.
-pub one_verdict : (job : Job) (line : List ℕ) (v w : Verdict) → CanWork job.work job.format.pieces → IsVerdict job line v → IsVerdict job line w → v ≡ w
+pub one_verdict : (job : Job) (line : List ℕ) (v w : Verdict) → CanWork job → IsVerdict job line v → IsVerdict job line w → v ≡ w
 one_verdict job line Note Note can p q = refl
-one_verdict job line Note Long can p q = absurd (not_both (is_note job line) p q.0)
-one_verdict job line Note (Found g) can p q = absurd (not_both (is_note job line) p q.0)
-one_verdict job line Long Note can p q = absurd (not_both (is_note job line) q p.0)
+one_verdict job line Note Long can p q = absurd (note_or_long (sort_of (has_notes job) line) p q)
+one_verdict job line Note (Found g) can p q = absurd (note_or_line (sort_of (has_notes job) line) p q.0)
+one_verdict job line Long Note can p q = absurd (note_or_long (sort_of (has_notes job) line) q p)
 one_verdict job line Long Long can p q = refl
-one_verdict job line Long (Found g) can p q = absurd (omega (arith, p.1, q.1))
-one_verdict job line (Found f) Note can p q = absurd (not_both (is_note job line) q p.0)
-one_verdict job line (Found f) Long can p q = absurd (omega (arith, p.1, q.1))
-one_verdict job line (Found f) (Found g) can p q = ap Found (one_finding job.work job.format line f g can p.2 q.2)
+one_verdict job line Long (Found g) can p q = absurd (long_or_line (sort_of (has_notes job) line) p q.0)
+one_verdict job line (Found f) Note can p q = absurd (note_or_line (sort_of (has_notes job) line) q p.0)
+one_verdict job line (Found f) Long can p q = absurd (long_or_line (sort_of (has_notes job) line) q p.0)
+one_verdict job line (Found f) (Found g) can p q = ap Found (one_finding job line f g can p.1 q.1)
 
-pub no_note : (job : Job) (line : List ℕ) → has_notes job ≡ false → is_note job line ≡ false
-no_note job line none = ap (λ b. b && has_hash line) none
-
--- Where a job has no notes, its lines are the bytes cut at each line feed.
-pub plain_lines : (notes : Bool) (bytes : List ℕ) → notes ≡ false → lines_of notes bytes ≡ cut_lines bytes
-plain_lines false bytes none = refl
-plain_lines true bytes none = absurd (cc)
-
--- Verdicts of the lines that were cut are those of the stream.
-pub stream_verdicts : (job : Job) (bytes : List ℕ) (found : List Verdict) → has_notes job ≡ false → AreVerdicts job (cut_lines bytes) found → AreVerdicts job (lines_of (has_notes job) bytes) found
-stream_verdicts job bytes found none vs = subst (λ (ls : List (List ℕ)). AreVerdicts job ls found) (sym (plain_lines (has_notes job) bytes none)) vs
-
-pub cut_verdicts : (job : Job) (bytes : List ℕ) (found : List Verdict) → has_notes job ≡ false → AreVerdicts job (lines_of (has_notes job) bytes) found → AreVerdicts job (cut_lines bytes) found
-cut_verdicts job bytes found none vs = subst (λ (ls : List (List ℕ)). AreVerdicts job ls found) (plain_lines (has_notes job) bytes none) vs
+pub verdicts_length : (job : Job) (ls : List (List ℕ)) (vs : List Verdict) → AreVerdicts job ls vs → length ls ≡ length vs
+verdicts_length job [] [] p = refl
+verdicts_length job [] (v ∷ vs) p = absurd p
+verdicts_length job (l ∷ ls) [] p = absurd p
+verdicts_length job (l ∷ ls) (v ∷ vs) p = ap suc (verdicts_length job ls vs p.1)
 
 pub verdicts_append : (job : Job) (ls ms : List (List ℕ)) (vs ws : List Verdict) → AreVerdicts job ls vs → AreVerdicts job ms ws → AreVerdicts job (ls ++ ms) (vs ++ ws)
 verdicts_append job [] ms [] ws p q = q
@@ -74,7 +72,7 @@ verdicts_append job (l ∷ ls) ms [] ws p q = absurd p
 verdicts_append job (l ∷ ls) ms (v ∷ vs) ws p q = (p.0, verdicts_append job ls ms vs ws p.1 q)
 
 -- The verdicts of cut_lines are the front of those of more lines.
-pub verdicts_front : (job : Job) (ls ms : List (List ℕ)) (vs ws : List Verdict) → CanWork job.work job.format.pieces → AreVerdicts job ls vs → AreVerdicts job (ls ++ ms) ws → (more : List Verdict) × (ws ≡ vs ++ more)
+pub verdicts_front : (job : Job) (ls ms : List (List ℕ)) (vs ws : List Verdict) → CanWork job → AreVerdicts job ls vs → AreVerdicts job (ls ++ ms) ws → (more : List Verdict) × (ws ≡ vs ++ more)
 verdicts_front job [] ms [] ws one p q = (ws, refl)
 verdicts_front job [] ms (v ∷ vs) ws one p q = absurd p
 verdicts_front job (l ∷ ls) ms [] ws one p q = absurd p
@@ -105,15 +103,13 @@ or_false true = refl
 or_false false = refl
 
 -- A report that hasn't grown.
-pub reports_none : (job : Job) (r : Report) → Reports job r r []
-reports_none job r = record { count = sym (add-zero r.count); listed = sym (or_false r.is_partial); out = sym (append-nil r.out); err = sym (append-nil r.err) }
+pub reports_none : (job : Job) (r : Report) (n : ℕ) → Reports job r r n []
+reports_none job r n = record { listed = sym (or_false r.is_partial); out = sym (append-nil r.out); err = sym (append-nil r.err) }
 
 -- One growth after another.
-pub reports_both : (job : Job) (a b c : Report) (vs ws : List Verdict) → Reports job a b vs → Reports job b c ws → Reports job a c (vs ++ ws)
-reports_both job a b c vs ws p q = record {
-  count = omega (arith, p.count, q.count, length-append vs ws);
+pub reports_both : (job : Job) (a b c : Report) (n : ℕ) (vs ws : List Verdict) → Reports job a b n vs → Reports job b c (n + length vs) ws → Reports job a c n (vs ++ ws)
+reports_both job a b c n vs ws p q = record {
   listed = rw (q.listed, p.listed, listed_append vs ws) (or_assoc a.is_partial (any_listed vs) (any_listed ws));
   out = rw (q.out, p.out, out_append job vs ws) (append_assoc a.out (out_text job vs) (out_text job ws));
-  err = let here : b.count + 1 ≡ a.count + 1 + length vs = omega (arith, p.count) in
-      rw (q.err, p.err, err_append (a.count + 1) vs ws, here) (append_assoc a.err (err_text (a.count + 1) vs) (err_text (a.count + 1 + length vs) ws));
+  err = rw (q.err, p.err, err_append n vs ws) (append_assoc a.err (err_text n vs) (err_text (n + length vs) ws));
 }

@@ -1,12 +1,12 @@
 -- What the calls that write the report do.
-use Rattle.std.specs.Prelude.{◌≡◌, ℕ, ◌≤◌, ◌⊎◌, List, [], length, Option, Result, MatchResult}
+use Rattle.std.specs.Prelude.{◌≡◌, ℕ, ◌≤◌, ◌⊎◌, false, List, [], length, Option, Result, MatchResult}
+use Rattle.lf_stream.specs.declared.lines.Lines.{Lines as Cutter}
 use Rattle.lf_app.specs.declared.commands.Job.{Job}
 use Rattle.lf_io.specs.Faults.{Rose}
 use Rattle.lf_io.specs.Moves.{Takes}
 use Rattle.lf_io.specs.declared.sink.Put.{Put}
 use Rattle.lf_io.specs.declared.sink.Put.TheVariants as put
 use Rattle.lf_app.specs.declared.verdict.Verdict.{Verdict}
-use Rattle.lf_app.specs.declared.kept.Kept.{Kept}
 use Rattle.lf_app.specs.declared.report.Report.{Report}
 use Rattle.lf_app.specs.declared.status.Status.{Status}
 use Rattle.lf_app.specs.declared.limits.TheConstants.{MOST_BYTES}
@@ -27,23 +27,20 @@ pub record HasCauses (out_before out_now err_before err_now : ℕ) (failed : Typ
   pub err_later : err_before ≤ err_now
   pub cause : failed → Rose out_before out_now ⊎ Rose err_before err_now
 
--- The reader has taken bytes, and all that it found of their whole lines is written.
-pub record Follows (job : Job) (kept : Kept) (report : Report) (total : ℕ) (left later : Option (List ℕ)) (wrote_out wrote_err : List ℕ → Type 0) : Type 0 where
+-- Bytes were taken, and all that was found of their whole lines is written.
+pub record Follows (job : Job) (lines : Cutter) (report : Report) (left later : Option (List ℕ)) (wrote_out wrote_err : List ℕ → Type 0) : Type 0 where
   pub taken : List ℕ
   pub found : List Verdict
-  pub read : HasRead job kept taken found
+  pub read : HasRead job false lines report taken found
   pub takes : Takes left later taken
-  pub is_total : total ≡ length taken
-  pub most : total ≤ MOST_BYTES
-  pub count : report.count ≡ length found
-  pub lines : report.count ≤ total
+  pub most : length taken ≤ MOST_BYTES
   pub listed : report.is_partial ≡ any_listed found
   pub no_out : report.out ≡ []
   pub no_err : report.err ≡ []
   pub out : wrote_out (out_text job found)
   pub err : wrote_err (err_text 1 found)
 
--- The reader goes on, or the run ends with this status.
-abbrev pub GoesOn : Result (Unit {0}) Status → Job → Kept → Report → ℕ → Option (List ℕ) → Option (List ℕ) → (List ℕ → Type 0) → (List ℕ → Type 0) → Type 0
-GoesOn result job kept report total left later out err =
-    MatchResult result (λ _. Follows job kept report total left later out err) (λ status. Runs (Lines job) status.0 left later out err)
+-- The reading goes on, or the run ends with this status.
+abbrev pub GoesOn : Result (Unit {0}) Status → Job → Cutter → Report → Option (List ℕ) → Option (List ℕ) → (List ℕ → Type 0) → (List ℕ → Type 0) → Type 0
+GoesOn result job lines report left later out err =
+    MatchResult result (λ _. Follows job lines report left later out err) (λ status. Runs (Lines job) status.0 left later out err)

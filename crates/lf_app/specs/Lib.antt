@@ -1,7 +1,6 @@
 pub mod Run
 pub mod Commands
 pub mod Outcome
-pub mod Lines
 pub mod Verdicts
 pub mod Progress
 pub mod Flush

@@ -12,12 +12,14 @@ use Rattle.lf_format.specs.declared.slot.Absent.{Absent}
 use Rattle.lf_format.specs.declared.slot.Absent.TheVariants as absent
 use Rattle.lf_format.specs.declared.slot.Slot.{Slot}
 use Rattle.lf_app.specs.declared.commands.Command.{Command}
-use Rattle.lf_app.specs.declared.commands.Command.TheVariants.{Lines, Show, Refuse}
+use Rattle.lf_app.specs.declared.commands.Command.TheVariants.{Lines, Readable, Witness, Show, Refuse}
 use Rattle.lf_app.specs.declared.commands.Job.{Job}
 use Rattle.lf_app.specs.declared.commands.Refusal.{Refusal}
-use Rattle.lf_app.specs.declared.commands.Refusal.TheVariants.{BadWords, BadFormat, NotBuilt}
+use Rattle.lf_app.specs.declared.commands.Refusal.TheVariants.{BadWords, BadFormat, NotBuilt, TooLarge, NoteLine, Confused}
+use Rattle.lf_compile.specs.declared.refused.Confusion.{Confusion}
+use Rattle.lf_json.specs.Text.{json_text, text_json}
+use Rattle.lf_stream.specs.Cut.{lines_of}
 use Rattle.lf_app.specs.declared.verdict.Verdict.{Verdict}
-use Rattle.lf_app.specs.Lines.{lines_of}
 use Rattle.lf_app.specs.Verdicts.{AreVerdicts, has_notes, out_text, err_text, any_listed}
 
 -- a status, and what `out` and `err` get
@@ -37,15 +39,33 @@ cause_text cause.LineBreak = codes "LineBreak"
 cause_text cause.EmptyFormat = codes "EmptyFormat"
 cause_text cause.TooManySlots = codes "TooManySlots"
 
--- what `err` gets of a refusal, without its line feed
+-- the lines that show two records of one line, without the last line feed
+abbrev pub witness_text : Confusion → List ℕ
+witness_text c =
+    codes "ambiguous\nline " ++ text_json c.line ++ codes "\nfirst " ++ json_text c.first ++ codes "\nsecond " ++ json_text c.second
+
+-- what is said of a refusal, without its line feed
 abbrev pub refusal_text : Refusal → List ℕ
 refusal_text BadWords = codes "logfmt: bad command line"
 refusal_text (BadFormat place why) = codes "logfmt: source format: " ++ cause_text why ++ codes " at " ++ decimal place
 refusal_text NotBuilt = codes "logfmt: not built"
+refusal_text (TooLarge size) = codes "logfmt: size " ++ decimal size ++ codes " over 4096"
+refusal_text (NoteLine rec) = codes "logfmt: note line: " ++ json_text rec
+refusal_text (Confused confusion) = witness_text confusion
 
--- a refusal with this status
-abbrev pub refused : ℕ → Refusal → Outcome
-refused status refusal = record { status = status; out = []; err = refusal_text refusal ++ 10 ∷ [] }
+-- the status of a refusal
+abbrev pub refusal_status : Refusal → ℕ
+refusal_status (TooLarge size) = 7
+refusal_status (Confused confusion) = 1
+refusal_status refusal = 2
+
+-- an outcome that only writes a line on `err`
+abbrev pub told_err : ℕ → List ℕ → Outcome
+told_err status text = record { status = status; out = []; err = text ++ 10 ∷ [] }
+
+-- an outcome that only writes a line on `out`
+abbrev pub told_out : ℕ → List ℕ → Outcome
+told_out status text = record { status = status; out = text ++ 10 ∷ []; err = [] }
 
 -- the word for a sort of values
 abbrev pub kind_text : ValueKind → List ℕ
@@ -82,8 +102,10 @@ outcome_of job verdicts = record { status = cond (any_listed verdicts) 3 0; out 
 -- The command on this input has this outcome.
 abbrev pub HasOutcome : Command → List ℕ → Outcome → Type 0
 HasOutcome (Lines job) input o = (verdicts : List Verdict) × AreVerdicts job (lines_of (has_notes job) input) verdicts × (o ≡ outcome_of job verdicts)
+HasOutcome (Readable slots) input o = o ≡ told_out 0 (codes "readable " ++ decimal slots)
+HasOutcome (Witness confusion) input o = o ≡ told_out 1 (witness_text confusion)
 HasOutcome (Show format) input o = o ≡ shown format
-HasOutcome (Refuse refusal) input o = o ≡ refused 2 refusal
+HasOutcome (Refuse refusal) input o = o ≡ told_err (refusal_status refusal) (refusal_text refusal)
 
 -- The command on this input has one outcome and no other.
 pub record HasOneOutcome (command : Command) (input : List ℕ) : Type 0 where

@@ -1,87 +1,87 @@
--- How far the reader of a stream has come.
-use Rattle.std.specs.Prelude.{◌≡◌, ℕ, ◌+◌, ◌<◌, ◌≤◌, Bool, true, false, ◌||◌, List, [], ◌∷◌, ◌++◌, length}
-use Rattle.std.specs.List.{flat_map, AllByRecursion}
-use Rattle.lf_app.specs.declared.commands.Command.{Command}
-use Rattle.lf_app.specs.declared.commands.Command.TheVariants.{Lines, Show, Refuse}
-use Rattle.lf_app.specs.declared.commands.Job.{Job}
-use Rattle.lf_format.specs.Separated.{IsSeparated}
+-- How far the lines of a stream are read.
+use Rattle.std.specs.Prelude.{◌≡◌, ℕ, ◌+◌, ◌≤◌, Bool, false, ◌||◌, cond, List, [], ◌∷◌, ◌++◌, length, All}
+use Rattle.lf_compile.specs.declared.refused.Confusion.{Confusion}
 use Rattle.lf_format.specs.Lines.{IsReadable}
-use Rattle.lf_app.specs.declared.verdict.Verdict.{Verdict}
-use Rattle.lf_app.specs.declared.kept.Kept.{Kept}
+use Rattle.lf_json.specs.Text.{HasJson}
+use Rattle.lf_stream.specs.Cut.{known_lines}
+use Rattle.lf_stream.specs.Standing.{Stands, is_finished, room_of, has_notes as may_have_notes}
+use Rattle.lf_stream.specs.declared.limits.TheConstants.{LEAST_ROOM}
+use Rattle.lf_stream.specs.declared.lines.Lines.{Lines as Cutter}
+use Rattle.lf_app.specs.declared.commands.Command.{Command}
+use Rattle.lf_app.specs.declared.commands.Command.TheVariants.{Lines, Witness, Refuse}
+use Rattle.lf_app.specs.declared.commands.Job.{Job}
+use Rattle.lf_app.specs.declared.commands.Job.TheVariants as jobs
+use Rattle.lf_app.specs.declared.commands.Refusal.TheVariants as refusals
 use Rattle.lf_app.specs.declared.report.Report.{Report}
-use Rattle.lf_app.specs.declared.limits.TheConstants.{LINE}
-use Rattle.lf_app.specs.Lines.{has_feed, cut_lines}
-use Rattle.lf_app.specs.declared.commands.Work.{Work}
-use Rattle.lf_app.specs.declared.commands.Work.TheVariants as work
-use Rattle.lf_format.specs.declared.format.Piece.{Piece}
-use Rattle.lf_app.specs.Verdicts.{IsVerdict, AreVerdicts, has_notes, out_text, err_text, any_listed}
+use Rattle.lf_app.specs.declared.verdict.Verdict.{Verdict}
+use Rattle.lf_app.specs.Verdicts.{AreVerdicts, has_notes, out_text, err_text, any_listed}
 
-abbrev pub HasNoFeed : List ℕ → Type 0
-HasNoFeed line = has_feed line ≡ false
+-- What was fed is this stream, which has ended or not, and what is reported is as many lines of it as were given.
+pub record Holds (job : Job) (over : Bool) (lines : Cutter) (report : Report) (stream : List ℕ) (found : List Verdict) : Type 0 where
+  pub notes : may_have_notes lines ≡ has_notes job
+  pub over_is : is_finished lines ≡ over
+  pub stands : Stands lines stream (length found)
+  pub count : report.count ≡ length found
 
-abbrev pub with_feed : List ℕ → List ℕ
-with_feed line = line ++ 10 ∷ []
+-- Some of the lines that are known are read, and this is what was found of them.
+pub record IsReading (job : Job) (over : Bool) (lines : Cutter) (report : Report) (stream : List ℕ) (found : List Verdict) : Type 0 where
+  pub holds : Holds job over lines report stream found
+  pub given : List (List ℕ)
+  pub later : List (List ℕ)
+  pub known : known_lines over (has_notes job) stream ≡ given ++ later
+  pub verdicts : AreVerdicts job given found
 
--- The bytes are these lines, each ended, and a rest without an end.
-pub record Splits (taken : List ℕ) (ended : List (List ℕ)) (rest : List ℕ) : Type 0 where
-  pub joined : taken ≡ flat_map with_feed ended ++ rest
-  pub each : AllByRecursion HasNoFeed ended
-  pub last : HasNoFeed rest
+-- All lines that are known are read, and this is what was found of them.
+pub record HasRead (job : Job) (over : Bool) (lines : Cutter) (report : Report) (stream : List ℕ) (found : List Verdict) : Type 0 where
+  pub holds : Holds job over lines report stream found
+  pub verdicts : AreVerdicts job (known_lines over (has_notes job) stream) found
+  pub room : LEAST_ROOM ≤ room_of lines
 
--- What is kept of the rest: all of it, or that it is long.
-abbrev pub KeepsRest : Bool → List ℕ → List ℕ → Type 0
-KeepsRest false bytes rest = (bytes ≡ rest) × (length rest ≤ LINE)
-KeepsRest true bytes rest = (bytes ≡ []) × (LINE < length rest)
+-- Some stream is being read.
+abbrev pub IsBegun : Job → Cutter → Report → Type 0
+IsBegun job lines report = (over : Bool) × (stream : List ℕ) × (found : List Verdict) × IsReading job over lines report stream found
 
-abbrev pub Keeps : Kept → List ℕ → Type 0
-Keeps kept rest = KeepsRest kept.is_long kept.bytes rest
+-- The lines of some stream are read that hasn't ended.
+abbrev pub IsOpen : Job → Cutter → Report → Type 0
+IsOpen job lines report = (stream : List ℕ) × (found : List Verdict) × HasRead job false lines report stream found
 
--- The reader has taken these bytes, and this is what it found of their whole lines.
-pub record HasRead (job : Job) (kept : Kept) (taken : List ℕ) (found : List Verdict) : Type 0 where
-  pub ended : List (List ℕ)
-  pub rest : List ℕ
-  pub splits : Splits taken ended rest
-  pub verdicts : AreVerdicts job ended found
-  pub keeps : Keeps kept rest
-
--- The report has grown by what was found of more lines.
-pub record Reports (job : Job) (old new : Report) (more : List Verdict) : Type 0 where
-  pub count : new.count ≡ old.count + length more
+-- The report has grown by what was found of more lines, which are numbered from n on.
+pub record Reports (job : Job) (old new : Report) (n : ℕ) (more : List Verdict) : Type 0 where
   pub listed : new.is_partial ≡ (old.is_partial || any_listed more)
   pub out : new.out ≡ old.out ++ out_text job more
-  pub err : new.err ≡ old.err ++ err_text (old.count + 1) more
+  pub err : new.err ≡ old.err ++ err_text n more
 
--- A line has ended, nothing of the next has come, and the report has grown by what was found of it.
-pub record EndsLine (job : Job) (kept : Kept) (old new : Report) (line : List ℕ) : Type 0 where
-  pub found : Verdict
-  pub verdict : IsVerdict job line found
-  pub keeps : Keeps kept []
-  pub reports : Reports job old new (found ∷ [])
-
--- More lines were found among the bytes taken, and the report has grown by them.
-pub record Grows (job : Job) (kept : Kept) (old new : Report) (taken : List ℕ) (found : List Verdict) : Type 0 where
+-- More lines were read, and the report has grown by what was found of them.
+pub record ReadsOn (job : Job) (over : Bool) (lines : Cutter) (old new : Report) (stream : List ℕ) (found : List Verdict) : Type 0 where
   pub more : List Verdict
-  pub read : HasRead job kept taken (found ++ more)
-  pub reports : Reports job old new more
+  pub reading : IsReading job over lines new stream (found ++ more)
+  pub reports : Reports job old new (length found + 1) more
 
--- The last line, if any, was found at the end of the bytes, and the report has grown by it.
-pub record Finishes (job : Job) (old new : Report) (taken : List ℕ) (found : List Verdict) : Type 0 where
+-- All further lines were read, and the report has grown by what was found of them.
+pub record Grows (job : Job) (over : Bool) (lines : Cutter) (old new : Report) (stream : List ℕ) (found : List Verdict) : Type 0 where
   pub more : List Verdict
-  pub verdicts : AreVerdicts job (cut_lines taken) (found ++ more)
-  pub reports : Reports job old new more
+  pub read : HasRead job over lines new stream (found ++ more)
+  pub reports : Reports job old new (length found + 1) more
 
--- What a work needs of its format: to read lines, it is separated, and so readable.
-abbrev pub CanWork : Work → List Piece → Type 0
-CanWork work.Read pieces = IsSeparated pieces × IsReadable pieces
-CanWork work.Write pieces = Unit {0}
+-- A line more was read where there was one, and else all were.
+abbrev pub ReadsNext : Bool → Job → Bool → Cutter → Report → Report → List ℕ → List Verdict → Type 0
+ReadsNext is_some job over lines old new stream found =
+    cond is_some ((v : Verdict) × IsReading job over lines new stream (found ++ v ∷ []) × Reports job old new (length found + 1) (v ∷ [])) (HasRead job over lines new stream found × (new ≡ old))
 
--- The job is one that the reader takes, and its stream has no notes.
-pub record IsLineJob (job : Job) : Type 0 where
-  pub can : CanWork job.work job.format.pieces
-  pub no_notes : has_notes job ≡ false
+-- What the work needs of its format: to read lines, it is readable.
+abbrev pub CanWork : Job → Type 0
+CanWork (jobs.Read format) = IsReadable format.pieces
+CanWork (jobs.Write format) = Unit {0}
 
--- The command can be done: where it works on lines, its job is one that the reader takes.
+-- The records of a confusion have a JSON text.
+pub record HasRecords (confusion : Confusion) : Type 0 where
+  pub first : All HasJson confusion.first
+  pub second : All HasJson confusion.second
+
+-- The command can be done: its lines can be worked on, and records that it shows have a JSON text.
 abbrev pub IsReady : Command → Type 0
-IsReady (Lines job) = IsLineJob job
-IsReady (Show format) = Unit {0}
-IsReady (Refuse refusal) = Unit {0}
+IsReady (Lines job) = CanWork job
+IsReady (Witness confusion) = HasRecords confusion
+IsReady (Refuse (refusals.NoteLine rec)) = All HasJson rec
+IsReady (Refuse (refusals.Confused confusion)) = HasRecords confusion
+IsReady command = Unit {0}

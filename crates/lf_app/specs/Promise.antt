@@ -1,5 +1,6 @@
 -- All that a run does, in one record: each clause of `run` is a part of it.
-use Rattle.std.specs.Prelude.{◌≡◌, ℕ, ◌≤◌, List, length, Option, ◌⊎◌}
+use Rattle.std.specs.Prelude.{◌≡◌, ℕ, ◌≤◌, List, [], length, Option, ◌⊎◌, Result, Ok, Err}
+use Rattle.lf_core.specs.declared.memory.OutOfMemory.{OutOfMemory}
 use Rattle.lf_io.specs.Faults.{Rose}
 use Rattle.lf_io.specs.Moves.{Takes}
 use Rattle.lf_app.specs.declared.limits.TheConstants.{MOST_BYTES}
@@ -33,3 +34,8 @@ pub record Tells (status : ℕ) (source_before source_now out_before out_now err
 pub record Says (good status : ℕ) (text : List ℕ) (appended : List ℕ → Type 0) : Type 0 where
   pub whole : status ≡ good → appended text
   pub part : Front text appended
+
+-- A text that there was memory for was said; else nothing was written, at status 6.
+abbrev pub TellsText : ℕ → ℕ → Result (List ℕ) OutOfMemory → (List ℕ → Type 0) → Type 0
+TellsText good status (Ok text) appended = Says good status text appended × ((status ≡ good) ⊎ (status ≡ 5))
+TellsText good status (Err memory) appended = (status ≡ 6) × appended []

@@ -4,8 +4,8 @@ use Rattle.std.specs.Prelude.{◌≡◌, ℕ, ◌<◌, ◌≤◌, List, length, 
 use Rattle.lf_core.specs.Adds.{BeginsWith}
 use Rattle.lf_io.specs.Moves.{Takes, IsAtEnd}
 use Rattle.lf_io.specs.Faults.{Rose}
+use Rattle.lf_stream.specs.Cut.{whole_part}
 use Rattle.lf_app.specs.declared.limits.TheConstants.{MOST_BYTES}
-use Rattle.lf_app.specs.Lines.{whole_part}
 use Rattle.lf_app.specs.declared.commands.Command.{Command}
 use Rattle.lf_app.specs.Commands.{TakesInput}
 use Rattle.lf_app.specs.Outcome.{Outcome, HasOutcome}

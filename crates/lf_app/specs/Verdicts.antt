@@ -1,5 +1,5 @@
 -- What is found of a line, and what is written of it.
-use Rattle.std.specs.Prelude.{◌≡◌, ℕ, ◌+◌, ◌<◌, ◌≤◌, Bool, true, false, ◌||◌, ◌&&◌, ◌==◌, List, [], ◌∷◌, ◌++◌, length, codes, Ok, Err}
+use Rattle.std.specs.Prelude.{◌≡◌, ℕ, ◌+◌, Bool, true, false, ◌||◌, List, [], ◌∷◌, ◌++◌, codes, Ok, Err}
 use Rattle.std.specs.List.{flat_map}
 use Rattle.std.specs.Fmt.{decimal}
 use Rattle.lf_format.specs.Shape.{Shape}
@@ -10,46 +10,38 @@ use Rattle.lf_json.specs.Reading.{ReadsJson}
 use Rattle.lf_json.specs.Text.{json_text}
 use Rattle.lf_json.specs.declared.bad_record.BadRecord.{BadRecord}
 use Rattle.lf_json.specs.declared.bad_record.BadRecord.TheVariants.{NotJson, WrongCount, WrongValue, OutOfMemory}
+use Rattle.lf_stream.specs.Sorts.{sort_of}
+use Rattle.lf_stream.specs.declared.marks.Sort.TheVariants as sort
 use Rattle.lf_app.specs.declared.commands.Job.{Job}
-use Rattle.lf_app.specs.declared.commands.Work.{Work}
-use Rattle.lf_app.specs.declared.commands.Work.TheVariants as work
+use Rattle.lf_app.specs.declared.commands.Job.TheVariants as jobs
 use Rattle.lf_app.specs.declared.verdict.Finding.{Finding}
 use Rattle.lf_app.specs.declared.verdict.Finding.TheVariants.{Read, Unread, Written, Bad}
 use Rattle.lf_app.specs.declared.verdict.Verdict.{Verdict}
 use Rattle.lf_app.specs.declared.verdict.Verdict.TheVariants.{Note, Long, Found}
-use Rattle.lf_app.specs.declared.limits.TheConstants.{LINE}
 
--- whether the line begins with `#`
-abbrev pub has_hash : List ℕ → Bool
-has_hash [] = false
-has_hash (b ∷ bs) = b == 35
+-- the format by which lines are worked on
+abbrev pub format_of : Job → Shape
+format_of (jobs.Read format) = format
+format_of (jobs.Write format) = format
 
--- whether a stream that is worked on so has notes, where the format's lines may: lines of JSON have none
-abbrev pub notes_under : Work → Bool → Bool
-notes_under work.Read notes = notes
-notes_under work.Write notes = false
-
--- whether the stream may have notes
+-- whether the stream may have notes: lines of JSON have none
 abbrev pub has_notes : Job → Bool
-has_notes job = notes_under job.work job.format.notes
-
--- whether the line is a note of the stream
-abbrev pub is_note : Job → List ℕ → Bool
-is_note job line = has_notes job && has_hash line
+has_notes (jobs.Read format) = format.notes
+has_notes (jobs.Write format) = false
 
 -- What is found of a line: the record that prints it, or that none does; or the record that it is as JSON, or why it is none.
-abbrev pub IsFound : Work → Shape → List ℕ → Finding → Type 0
-IsFound work.Read format line (Read r) = Prints format.pieces r line
-IsFound work.Read format line Unread = PrintsNone format.pieces line
-IsFound work.Write format line (Written r) = ReadsJson format.pieces line (Ok r)
-IsFound work.Write format line (Bad bad) = ReadsJson format.pieces line (Err bad)
-IsFound work format line finding = ⊥
+abbrev pub IsFound : Job → List ℕ → Finding → Type 0
+IsFound (jobs.Read format) line (Read r) = Prints format.pieces r line
+IsFound (jobs.Read format) line Unread = PrintsNone format.pieces line
+IsFound (jobs.Write format) line (Written r) = ReadsJson format.pieces line (Ok r)
+IsFound (jobs.Write format) line (Bad bad) = ReadsJson format.pieces line (Err bad)
+IsFound job line finding = ⊥
 
 -- The verdict of a line: it is a note, or long, or what is found of it.
 abbrev pub IsVerdict : Job → List ℕ → Verdict → Type 0
-IsVerdict job line Note = is_note job line ≡ true
-IsVerdict job line Long = (is_note job line ≡ false) × (LINE < length line)
-IsVerdict job line (Found finding) = (is_note job line ≡ false) × (length line ≤ LINE) × IsFound job.work job.format line finding
+IsVerdict job line Note = sort_of (has_notes job) line ≡ sort.Note
+IsVerdict job line Long = sort_of (has_notes job) line ≡ sort.Long
+IsVerdict job line (Found finding) = (sort_of (has_notes job) line ≡ sort.Line) × IsFound job line finding
 
 -- The verdicts of lines, in order.
 abbrev pub AreVerdicts : Job → List (List ℕ) → List Verdict → Type 0
@@ -74,7 +66,7 @@ finding_text format (Bad bad) = []
 abbrev pub out_of : Job → Verdict → List ℕ
 out_of job Note = []
 out_of job Long = []
-out_of job (Found finding) = finding_text job.format finding
+out_of job (Found finding) = finding_text (format_of job) finding
 
 -- a line of `err` that lists the line of this number
 abbrev pub listed_line : List ℕ → ℕ → List ℕ → List ℕ

@@ -1,99 +1,72 @@
-ghost use Rattle.std.specs.Prelude.{◌≡◌, ◌↔◌, ◌≤◌, IfOk, IsTrue, true, length, cond};
-ghost use Rattle.std.specs.List.{list_all};
-ghost use Rattle.apache_front.specs.Apache.{Spells};
-ghost use Rattle.lf_format.specs.Keeps.{slots_in};
-ghost use Rattle.lf_app.specs.Commands.{is_plain as is_plain_byte, is_read_name as is_spelled_name, is_read_slot, is_built_verb as is_verb_built, is_built_front as is_front_built, is_built as is_line_built, HasReadForm, IsAsked, AsksFor, IsCommand};
+ghost use Rattle.std.specs.Prelude.{◌≡◌, ◌≤◌, IfOk, true, length};
+ghost use Rattle.lf_fronts.specs.Fronts.{Spells};
+ghost use Rattle.lf_app.specs.Commands.{is_built_verb as is_verb_built, is_built as is_line_built, accepted_command, IsRefusedFor, IsAsked, AsksFor, IsCommand};
+ghost use Rattle.lf_app.specs.Verdicts.{format_of, has_notes};
 
-use crate::limits::{PATH_BYTES, PATH_SLOTS};
-use apache_front::parse;
-use lf_core::{OutOfMemory, Str};
-use lf_format::{Cause, Format, FormatFault, Piece, separated};
-use lf_words::{Command as CommandLine, Front, Verb, WordFault, read_words};
+use lf_compile::{CompileRefused, Confusion, Reader, Refused, compile};
+use lf_core::{OutOfMemory, Record, Str};
+use lf_format::{Cause, Format, FormatFault};
+use lf_fronts::parse;
+use lf_words::{Command as CommandLine, Side, Verb, WordFault, read_words};
 use std::alloc::Global;
 
-/// How the lines of a stream are worked on: as a format's lines, or as records in JSON.
-#[derive(Clone, Copy, Debug, PartialEq, Eq)]
-pub enum Work {
-    Read,
-    Write,
+/// What is done with the lines of a stream: they are read as a format's lines, or written from records in JSON.
+#[derive(Drop)]
+pub enum Job {
+    Read(Reader),
+    Write(Format),
 }
 
-/// What is done with the lines of a stream.
-#[derive(Debug, Drop)]
-pub struct Job {
-    pub work: Work,
-    pub format: Format,
+impl Job {
+    /// The format by which lines are worked on.
+    pub fn format(&self) -> &Format
+        ensures { result.now ≡ format_of self.now }
+    {
+        match self {
+            Job::Read(reader) => reader.format(),
+            Job::Write(format) => format,
+        }
+    }
+
+    /// Whether the stream may have notes. Lines of JSON have none.
+    pub fn has_notes(&self) -> bool
+        ensures { result ≡ has_notes self.now }
+    {
+        match self {
+            Job::Read(reader) => reader.format().notes(),
+            Job::Write(_) => false,
+        }
+    }
 }
 
 /// Why a command line is refused.
-#[derive(Clone, Copy, Debug, PartialEq, Eq)]
+#[derive(Drop)]
 pub enum Refusal {
     BadWords,
     BadFormat(u32, Cause),
     NotBuilt,
+    TooLarge(u64),
+    NoteLine(Record),
+    Confused(Confusion),
 }
 
-/// What a command line asks for.
-#[derive(Debug, Drop)]
+/// What a command line asks for: to work on lines, to say that a format of so many slots is readable or to show that
+/// it isn't, to show its slots, or what is refused.
+#[derive(Drop)]
 pub enum Command {
     Lines(Job),
+    Readable(u32),
+    Witness(Confusion),
     Show(Format),
     Refuse(Refusal),
-}
-
-/// Whether no byte is a backslash or a line feed.
-fn is_plain(text: &[u8]) -> bool
-    ensures { result ≡ list_all is_plain_byte text.now }
-{
-    text.iter().all(|byte| *byte != b'\\' && *byte != b'\n')
-}
-
-fn is_read_name(name: &Str) -> bool
-    ensures { result ≡ is_spelled_name name.now }
-{
-    let name = name.as_str();
-    name == "%h" || name == "%s" || name == "%B"
-}
-
-/// Whether each slot is one by which lines are read.
-fn are_read_slots(pieces: &[Piece]) -> bool
-    ensures { result ≡ list_all is_read_slot (slots_in pieces.now) }
-{
-    match pieces.split_first() {
-        None => true,
-        Some((Piece::Literal(_), rest)) => are_read_slots(rest),
-        Some((Piece::Slot(slot), rest)) => is_read_name(&slot.name) && are_read_slots(rest),
-    }
-}
-
-/// Whether lines are read by this format, as yet.
-fn has_read_form(text: &[u8], format: &Format) -> bool
-    ensures { IsTrue result ↔ HasReadForm text.now format.now.pieces }
-{
-    if PATH_BYTES < text.len() || !is_plain(text) {
-        return false;
-    }
-    if !are_read_slots(format.pieces()) || PATH_SLOTS < format.slots() {
-        return false;
-    }
-    separated(format)
 }
 
 fn is_built_verb(verb: Verb) -> bool
     ensures { result ≡ is_verb_built verb }
 {
     match verb {
-        Verb::Read | Verb::Write | Verb::Show => true,
-        Verb::Check | Verb::Translate | Verb::Gen => false,
-    }
-}
-
-fn is_built_front(front: Front) -> bool
-    ensures { result ≡ is_front_built front }
-{
-    match front {
-        Front::Apache => true,
-        _ => false,
+        Verb::Check | Verb::Read | Verb::Write | Verb::Show => true,
+        Verb::Translate | Verb::Gen => false,
     }
 }
 
@@ -101,30 +74,46 @@ fn is_built_front(front: Front) -> bool
 fn is_built(line: &CommandLine) -> bool
     ensures { result ≡ is_line_built line.now }
 {
-    is_built_verb(line.verb) && is_built_front(line.source.front) && line.source.narrow.is_none()
+    is_built_verb(line.verb) && line.source.narrow.is_none()
+}
+
+/// What is asked for by a format that is accepted.
+fn accepted(verb: Verb, reader: Reader) -> Command
+    ensures { result ≡ accepted_command verb reader }
+{
+    match verb {
+        Verb::Check => Command::Readable(reader.format().slots()),
+        _ => Command::Lines(Job::Read(reader)),
+    }
+}
+
+/// What is asked for by a format that isn't accepted.
+fn refused(verb: Verb, cause: Refused) -> Result<Command, OutOfMemory>
+    ensures { IfOk result (λ command. IsRefusedFor verb cause command) }
+{
+    match cause {
+        Refused::TooLarge(size) => Ok(Command::Refuse(Refusal::TooLarge(size))),
+        Refused::Hash(record) => Ok(Command::Refuse(Refusal::NoteLine(record))),
+        Refused::Ambiguous(confusion) => match verb {
+            Verb::Check => Ok(Command::Witness(confusion)),
+            _ => Ok(Command::Refuse(Refusal::Confused(confusion))),
+        },
+        Refused::OutOfMemory => Err(OutOfMemory),
+    }
 }
 
 /// What a verb that is built asks for by this format.
-fn ask(verb: Verb, text: &[u8], format: Format) -> Command
-    requires built { is_verb_built verb ≡ true }
-    requires spelled { Spells text.now format }
-    ensures { IsAsked verb text.now result }
+fn ask(alloc: Global, verb: Verb, _source: &Side, format: Format) -> Result<Command, OutOfMemory>
+    requires { Spells _source.now.front _source.now.format format }
+    ensures { IfOk result (IsAsked verb _source.now) }
 {
     match verb {
-        Verb::Write => Command::Lines(Job {
-            work: Work::Write,
-            format,
-        }),
-        Verb::Show => Command::Show(format),
-        _ => {
-            if !has_read_form(text, &format) {
-                return Command::Refuse(Refusal::NotBuilt);
-            }
-            Command::Lines(Job {
-                work: Work::Read,
-                format,
-            })
-        }
+        Verb::Write => Ok(Command::Lines(Job::Write(format))),
+        Verb::Show => Ok(Command::Show(format)),
+        _ => match compile(alloc, format) {
+            Ok(reader) => Ok(accepted(verb, reader)),
+            Err(CompileRefused { format: _, cause }) => refused(verb, cause),
+        },
     }
 }
 
@@ -136,9 +125,9 @@ fn read_line(alloc: Global, line: &CommandLine) -> Result<Command, OutOfMemory>
     if !is_built(line) {
         return Ok(Command::Refuse(Refusal::NotBuilt));
     }
-    let text = line.source.format.as_str();
-    match parse(alloc, text) {
-        Ok(format) => Ok(ask(line.verb, text.as_bytes(), format)),
+    let source = &line.source;
+    match parse(alloc, source.front, source.format.as_str()) {
+        Ok(format) => ask(alloc, line.verb, source, format),
         Err(FormatFault::At(place, cause)) => Ok(Command::Refuse(Refusal::BadFormat(place, cause))),
         Err(FormatFault::OutOfMemory) => Err(OutOfMemory),
     }

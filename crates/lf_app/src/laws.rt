@@ -2,21 +2,21 @@
 
 ghost use Rattle.std.specs.Prelude.{ℕ, List};
 ghost use Rattle.lf_app.specs.declared.commands.Command.{Command as OneCommand};
-ghost use Rattle.lf_app.specs.Commands.{IsCommand, IsOneCommand};
+ghost use Rattle.lf_app.specs.Commands.{IsCommand, IsOneCommand, KeepsBytes};
 ghost use Rattle.lf_app.specs.Outcome.{HasOneOutcome};
 
-/// Any words are one command and no other.
+/// No words are two commands. That they are one is told by reading them.
 pub fn words_are_one_command()
     ensures { (words : List (List ℕ)) → IsOneCommand words }
 {
-    apache_front::one_answer();
+    lf_compile::laws::one_answer();
+    lf_fronts::one_answer();
 }
 
 /// A command that some words are has one outcome on an input and no other.
 pub fn command_has_one_outcome()
-    ensures { (words : List (List ℕ)) (command : OneCommand) → IsCommand words command → (input : List ℕ) → HasOneOutcome command input }
+    ensures { (words : List (List ℕ)) (command : OneCommand) → IsCommand words command → KeepsBytes command → (input : List ℕ) → HasOneOutcome command input }
 {
-    lf_format::laws::separated_is_readable();
-    lf_format::laws::lines_are_decided();
+    lf_compile::laws::lines_are_decided();
     lf_json::laws::lines_have_one_reading();
 }

@@ -4,7 +4,6 @@
 mod commands;
 mod flush;
 mod gate;
-mod kept;
 pub mod laws;
 mod limits;
 mod passes;
@@ -17,7 +16,8 @@ mod telling;
 mod verdict;
 
 pub use gate::{Gate, IdleGate};
-pub use limits::{LINE, MOST_BYTES, PATH_BYTES, PATH_SLOTS};
+pub use lf_stream::LINE;
+pub use limits::MOST_BYTES;
 pub use running::run;
 pub use status::Status;
 

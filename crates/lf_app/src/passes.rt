@@ -1,44 +1,47 @@
-ghost use Rattle.std.specs.Prelude.{◌≡◌, ◌+◌, ◌<◌, ◌≤◌, ◌⊎◌, ℕ, List, Option, length, IfErr, IsErrAnd};
+ghost use Rattle.std.specs.Prelude.{◌≡◌, ◌+◌, ◌<◌, ◌≤◌, ◌⊎◌, ℕ, List, Option, length, IfErr, IsErrAnd, OnOk};
 ghost use Rattle.lf_io.specs.Faults.{HasCause, Rose};
 ghost use Rattle.lf_io.specs.Moves.{Gets, Takes, IsAtEnd};
 ghost use Rattle.lf_io.specs.Steps.{Pulls};
-ghost use Rattle.lf_app.specs.declared.commands.Command.TheVariants.{Lines};
-ghost use Rattle.lf_app.specs.Progress.{IsLineJob};
+ghost use Rattle.lf_stream.specs.Standing.{bytes_fed};
+ghost use Rattle.lf_stream.specs.declared.limits.TheConstants.{LEAST_ROOM};
+ghost use Rattle.lf_app.specs.declared.commands.Command.TheVariants as command;
+ghost use Rattle.lf_app.specs.Progress.{CanWork, IsOpen};
 ghost use Rattle.lf_app.specs.Promise.{Runs, Tells};
 ghost use Rattle.lf_app.specs.Flush.{HasCauses, Follows, GoesOn};
 
 use crate::commands::Job;
 use crate::flush::flush;
-use crate::kept::Kept;
 use crate::limits::MOST_BYTES;
 use crate::reading::{feed, finish};
 use crate::report::Report;
 use crate::status::Status;
 use lf_io::{Pulled, Put, Sink, Source};
+use lf_stream::{LEAST_ROOM, Lines};
 use std::alloc::Global;
 
 /// The next bytes of the stream are read, and what is found of their lines is written.
 fn pass_piece<O: Sink, E: Sink>(
     alloc: Global,
     job: &Job,
-    kept: &mut Kept,
+    lines: &mut Lines,
     report: &mut Report,
-    total: u64,
     piece: &[u8],
     out: &mut O,
     err: &mut E,
 ) -> Result<(), Status>
-    requires job { IsLineJob job.now }
-    requires room { total + length piece.now ≤ MOST_BYTES }
-    requires lines { report.old.count ≤ total }
+    requires job { CanWork job.now }
+    requires unended { IsOpen job.now lines.old report.old }
+    requires room { length piece.now ≤ LEAST_ROOM }
+    requires most { bytes_fed lines.old + length piece.now ≤ MOST_BYTES }
     ensures goes_on { (left later now : Option (List ℕ)) (out_got err_got : Option (List ℕ))
-        → Follows job.now kept.old report.old total left later (Gets out_got (O.got out.old)) (Gets err_got (E.got err.old))
+        → Follows job.now lines.old report.old left later (Gets out_got (O.got out.old)) (Gets err_got (E.got err.old))
         → Takes later now piece.now
-        → GoesOn result job.now kept.new report.new (total + length piece.now) left now (Gets out_got (O.got out.new)) (Gets err_got (E.got err.new)) }
+        → GoesOn result job.now lines.new report.new left now (Gets out_got (O.got out.new)) (Gets err_got (E.got err.new)) }
     ensures faults { HasCauses (O.faults out.old) (O.faults out.new) (E.faults err.old) (E.faults err.new) (IsErrAnd result (λ s. s.0 ≡ 5)) }
     ensures known { IfErr result (λ s. s.0 ≡ 5 ⊎ s.0 ≡ 6) }
+    ensures fed { OnOk result (bytes_fed lines.new ≡ bytes_fed lines.old + length piece.now) }
 {
-    let Ok(()) = feed(alloc, job, kept, report, piece) else {
+    let Ok(()) = feed(alloc, job, lines, report, piece) else {
         return Err(Status(6));
     };
     match flush(report, out, err) {
@@ -51,21 +54,21 @@ fn pass_piece<O: Sink, E: Sink>(
 fn close<O: Sink, E: Sink>(
     alloc: Global,
     job: &Job,
-    kept: &mut Kept,
+    lines: &mut Lines,
     report: &mut Report,
     out: &mut O,
     err: &mut E,
 ) -> Status
-    requires job { IsLineJob job.now }
-    requires lines { report.old.count < MOST_BYTES }
-    ensures runs { (total : ℕ) (left later : Option (List ℕ)) (out_got err_got : Option (List ℕ))
-        → Follows job.now kept.old report.old total left later (Gets out_got (O.got out.old)) (Gets err_got (E.got err.old))
-        → total < MOST_BYTES → IsAtEnd later
-        → Runs (Lines job.now) result.0 left later (Gets out_got (O.got out.new)) (Gets err_got (E.got err.new)) }
+    requires job { CanWork job.now }
+    requires unended { IsOpen job.now lines.old report.old }
+    ensures runs { (left later : Option (List ℕ)) (out_got err_got : Option (List ℕ))
+        → Follows job.now lines.old report.old left later (Gets out_got (O.got out.old)) (Gets err_got (E.got err.old))
+        → bytes_fed lines.old < MOST_BYTES → IsAtEnd later
+        → Runs (command.Lines job.now) result.0 left later (Gets out_got (O.got out.new)) (Gets err_got (E.got err.new)) }
     ensures faults { HasCauses (O.faults out.old) (O.faults out.new) (E.faults err.old) (E.faults err.new) (result.0 ≡ 5) }
     ensures known { result.0 ≤ 3 ⊎ result.0 ≡ 5 ⊎ result.0 ≡ 6 }
 {
-    let Ok(()) = finish(alloc, job, kept, report) else {
+    let Ok(()) = finish(alloc, job, lines, report) else {
         return Status(6);
     };
     match flush(report, out, err) {
@@ -103,27 +106,30 @@ fn read_through<S: Source, O: Sink, E: Sink>(
     out: &mut O,
     err: &mut E,
 ) -> Status
-    requires job { IsLineJob job.now }
-    requires room { 0 < length buffer.old }
-    ensures runs { Runs (Lines job.now) result.0 (S.left input.old) (S.left input.new) (Gets (O.got out.old) (O.got out.new)) (Gets (E.got err.old) (E.got err.new)) }
+    requires job { CanWork job.now }
+    requires some { 0 < length buffer.old }
+    requires room { length buffer.old ≤ LEAST_ROOM }
+    ensures runs { Runs (command.Lines job.now) result.0 (S.left input.old) (S.left input.new) (Gets (O.got out.old) (O.got out.new)) (Gets (E.got err.old) (E.got err.new)) }
     ensures tells { Tells result.0 (S.faults input.old) (S.faults input.new) (O.faults out.old) (O.faults out.new) (E.faults err.old) (E.faults err.new) }
 {
-    let mut kept = Kept::new(alloc);
+    let Ok(mut lines) = Lines::new(alloc, job.has_notes()) else {
+        return Status(6);
+    };
     let mut report = Report::new(alloc);
-    let mut total: u64 = 0;
     loop {
-        if total == MOST_BYTES {
+        let most = MOST_BYTES - lines.fed();
+        if most == 0 {
             return Status(8);
         }
-        match pull_most(input, buffer, MOST_BYTES - total) {
+        match pull_most(input, buffer, most) {
             Pulled::Took(count) => {
                 let piece = buffer.split_at(count).0;
-                match pass_piece(alloc, job, &mut kept, &mut report, total, piece, out, err) {
-                    Ok(()) => total += count as u64,
+                match pass_piece(alloc, job, &mut lines, &mut report, piece, out, err) {
+                    Ok(()) => {}
                     Err(status) => return status,
                 }
             }
-            Pulled::End => return close(alloc, job, &mut kept, &mut report, out, err),
+            Pulled::End => return close(alloc, job, &mut lines, &mut report, out, err),
             Pulled::Failed => return Status(4),
         }
     }
@@ -140,8 +146,8 @@ pub fn work_lines<S: Source, O: Sink, E: Sink>(
     out: &mut O,
     err: &mut E,
 ) -> Status
-    requires { IsLineJob job.now }
-    ensures runs { Runs (Lines job.now) result.0 (S.left input.old) (S.left input.new) (Gets (O.got out.old) (O.got out.new)) (Gets (E.got err.old) (E.got err.new)) }
+    requires { CanWork job.now }
+    ensures runs { Runs (command.Lines job.now) result.0 (S.left input.old) (S.left input.new) (Gets (O.got out.old) (O.got out.new)) (Gets (E.got err.old) (E.got err.new)) }
     ensures tells { Tells result.0 (S.faults input.old) (S.faults input.new) (O.faults out.old) (O.faults out.new) (E.faults err.old) (E.faults err.new) }
 {
     match vec![in alloc; 0u8; BUFFER] {

@@ -1,91 +1,87 @@
-ghost use Rattle.std.specs.Prelude.{◌≡◌, ◌+◌, ◌<◌, ◌≤◌, ℕ, List, [], ◌∷◌, ◌++◌, length, IfOk, OnOk};
+ghost use Rattle.std.specs.Prelude.{◌≡◌, ◌+◌, ◌≤◌, Bool, false, true, ℕ, List, ◌++◌, length, IfOk, OnOk};
+ghost use Rattle.lf_stream.specs.Standing.{bytes_fed};
+ghost use Rattle.lf_stream.specs.declared.limits.TheConstants.{LEAST_ROOM};
 ghost use Rattle.lf_app.specs.declared.verdict.Verdict.{Verdict as OneVerdict};
-ghost use Rattle.lf_app.specs.Verdicts.{IsVerdict, IsOfFormat};
-ghost use Rattle.lf_app.specs.Progress.{IsLineJob, Keeps, HasRead, EndsLine, Grows, Finishes};
+ghost use Rattle.lf_app.specs.Progress.{CanWork, IsReading, HasRead, IsBegun, IsOpen, ReadsNext, Grows};
 
 use crate::commands::Job;
-use crate::kept::Kept;
 use crate::limits::MOST_BYTES;
 use crate::report::Report;
-use crate::verdict::{Verdict, verdict_of};
+use crate::verdict::verdict_of;
 use lf_core::OutOfMemory;
-use memchr::memchr;
+use lf_stream::Lines;
 use std::alloc::Global;
 
-/// What is found of the line that ends after these bytes.
-fn end_line(alloc: Global, job: &Job, kept: &mut Kept, front: &[u8]) -> Result<Verdict, OutOfMemory>
-    requires { IsLineJob job.now }
-    ensures verdict { IfOk result (λ found. (rest : List ℕ) → Keeps kept.old rest
-        → IsVerdict job.now (rest ++ front.now) found × Keeps kept.new []) }
-    ensures record { IfOk result (IsOfFormat job.now.format) }
-{
-    if kept.is_empty() {
-        return verdict_of(alloc, job, front);
-    }
-    kept.add(front)?;
-    let found = if kept.is_long {
-        Verdict::Long
-    } else {
-        verdict_of(alloc, job, kept.bytes.as_slice())?
-    };
-    kept.clear();
-    Ok(found)
-}
-
-/// Reports what is found of the line that ends after these bytes.
-fn report_line(
+/// Reports the next line that is held whole. False where none is.
+fn report_next(
     alloc: Global,
     job: &Job,
-    kept: &mut Kept,
+    lines: &mut Lines,
     report: &mut Report,
-    front: &[u8],
-) -> Result<(), OutOfMemory>
-    requires job { IsLineJob job.now }
-    requires count { report.old.count < MOST_BYTES }
-    ensures line { OnOk result ((rest : List ℕ) → Keeps kept.old rest
-        → EndsLine job.now kept.new report.old report.new (rest ++ front.now)) }
-    ensures count { OnOk result (report.new.count ≡ report.old.count + 1) }
+) -> Result<bool, OutOfMemory>
+    requires { CanWork job.now }
+    ensures { IfOk result (λ is_some. (over : Bool) (stream : List ℕ) (found : List OneVerdict)
+        → IsReading job.now over lines.old report.old stream found
+        → ReadsNext is_some job.now over lines.new report.old report.new stream found) }
 {
-    let found = end_line(alloc, job, kept, front)?;
-    report.add(job, &found)
+    let Some(line) = lines.next() else {
+        return Ok(false);
+    };
+    let said = verdict_of(alloc, job, line.body)?;
+    report.add(job, line.number, &said)?;
+    Ok(true)
 }
 
-/// Reads the next bytes of a stream, and reports each line that ends in them.
+/// Reports all lines that are held whole.
+fn report_lines(
+    alloc: Global,
+    job: &Job,
+    lines: &mut Lines,
+    report: &mut Report,
+) -> Result<(), OutOfMemory>
+    requires job { CanWork job.now }
+    requires begun { IsBegun job.now lines.old report.old }
+    ensures { OnOk result ((over : Bool) (stream : List ℕ) (found : List OneVerdict)
+        → IsReading job.now over lines.old report.old stream found
+        → Grows job.now over lines.new report.old report.new stream found) }
+{
+    while report_next(alloc, job, lines, report)? {}
+    Ok(())
+}
+
+/// Takes the next bytes of the stream, and reports each line that ends in them.
 pub fn feed(
     alloc: Global,
     job: &Job,
-    kept: &mut Kept,
+    lines: &mut Lines,
     report: &mut Report,
     piece: &[u8],
 ) -> Result<(), OutOfMemory>
-    requires job { IsLineJob job.now }
-    requires count { report.old.count + length piece.now ≤ MOST_BYTES }
-    ensures read { OnOk result ((taken : List ℕ) (found : List OneVerdict) → HasRead job.now kept.old taken found
-        → Grows job.now kept.new report.old report.new (taken ++ piece.now) found) }
-    ensures count { OnOk result (report.new.count ≤ report.old.count + length piece.now) }
+    requires job { CanWork job.now }
+    requires unended { IsOpen job.now lines.old report.old }
+    requires room { length piece.now ≤ LEAST_ROOM }
+    requires most { bytes_fed lines.old + length piece.now ≤ MOST_BYTES }
+    ensures { OnOk result ((stream : List ℕ) (found : List OneVerdict)
+        → HasRead job.now false lines.old report.old stream found
+        → Grows job.now false lines.new report.old report.new (stream ++ piece.now) found) }
 {
-    let mut left = piece;
-    while let Some(end) = memchr(b'\n', left) {
-        report_line(alloc, job, kept, report, left.split_at(end).0)?;
-        left = left.split_at(end + 1).1;
-    }
-    kept.add(left)
+    lines.feed(piece);
+    report_lines(alloc, job, lines, report)
 }
 
 /// Reports the last line, where the stream doesn't end in a line feed.
 pub fn finish(
     alloc: Global,
     job: &Job,
-    kept: &mut Kept,
+    lines: &mut Lines,
     report: &mut Report,
 ) -> Result<(), OutOfMemory>
-    requires job { IsLineJob job.now }
-    requires count { report.old.count < MOST_BYTES }
-    ensures { OnOk result ((taken : List ℕ) (found : List OneVerdict) → HasRead job.now kept.old taken found
-        → Finishes job.now report.old report.new taken found) }
+    requires job { CanWork job.now }
+    requires unended { IsOpen job.now lines.old report.old }
+    ensures { OnOk result ((stream : List ℕ) (found : List OneVerdict)
+        → HasRead job.now false lines.old report.old stream found
+        → Grows job.now true lines.new report.old report.new stream found) }
 {
-    if kept.is_empty() {
-        return Ok(());
-    }
-    report_line(alloc, job, kept, report, &[])
+    lines.finish();
+    report_lines(alloc, job, lines, report)
 }

@@ -1,11 +1,10 @@
-ghost use Rattle.std.specs.Prelude.{◌≡◌, ◌+◌, ◌<◌, ◌||◌, true, false, ℕ, [], ◌∷◌, ◌++◌, OnOk};
+ghost use Rattle.std.specs.Prelude.{◌≡◌, ◌||◌, true, false, ℕ, [], ◌∷◌, ◌++◌, OnOk};
 ghost use Rattle.std.specs.Fmt.{decimal};
-ghost use Rattle.lf_app.specs.Verdicts.{end_text, finding_text, finding_err, bad_text, is_listed, listed_line, IsOfFormat};
+ghost use Rattle.lf_app.specs.Verdicts.{format_of, end_text, finding_text, finding_err, bad_text, is_listed, listed_line, IsOfFormat};
 ghost use Rattle.lf_app.specs.declared.verdict.Finding.TheVariants as finding;
 ghost use Rattle.lf_app.specs.declared.verdict.Verdict.TheVariants as verdict;
 
 use crate::commands::Job;
-use crate::limits::MOST_BYTES;
 use crate::verdict::{Finding, Verdict};
 use itoa::Buffer;
 use lf_core::{Bytes, OutOfMemory};
@@ -13,7 +12,7 @@ use lf_format::{Format, LineEnd};
 use lf_json::{BadRecord, write_record};
 use std::alloc::Global;
 
-/// What is to be written of the lines so far: their number, whether one was listed, and both texts.
+/// What is to be written of the lines so far: the number of the last one, whether one was listed, and both texts.
 #[derive(Drop)]
 pub struct Report {
     pub count: u64,
@@ -132,18 +131,17 @@ impl Report {
         }
     }
 
-    /// Adds what is said of the next line.
-    pub fn add(&mut self, job: &Job, said: &Verdict) -> Result<(), OutOfMemory>
-        requires count { self.old.count < MOST_BYTES }
-        requires record { IsOfFormat job.now.format said.now }
-        ensures reports { OnOk result (Reports job.now self.old self.new (said.now ∷ [])) }
-        ensures count { self.new.count ≡ self.old.count + 1 }
+    /// Adds what is said of the line of this number.
+    pub fn add(&mut self, job: &Job, number: u64, said: &Verdict) -> Result<(), OutOfMemory>
+        requires { IsOfFormat (format_of job.now) said.now }
+        ensures reports { OnOk result (Reports job.now self.old self.new number (said.now ∷ [])) }
+        ensures count { self.new.count ≡ number }
     {
-        self.count += 1;
+        self.count = number;
         match said {
             Verdict::Note => Ok(()),
             Verdict::Long => self.list_line(b"long "),
-            Verdict::Found(found) => self.add_finding(&job.format, found),
+            Verdict::Found(found) => self.add_finding(job.format(), found),
         }
     }
 }

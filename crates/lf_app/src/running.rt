@@ -10,9 +10,9 @@ ghost use Rattle.lf_app.specs.Run.{IsSettled, IsCutStream, IsSinkFault, IsNoMemo
 use crate::commands::{Command, read_command};
 use crate::gate::Gate;
 use crate::passes::work_lines;
-use crate::showing::{refusal_text, show_text};
+use crate::showing::{readable_text, refusal_status, refusal_text, show_text, witness_text};
 use crate::status::Status;
-use crate::telling::tell;
+use crate::telling::tell_text;
 use lf_core::{OutOfMemory, Str};
 use lf_io::{Sink, Source};
 use std::alloc::Global;
@@ -54,8 +54,8 @@ pub fn run<R: Threads + Sync, S: Source, O: Sink, E: Sink, G: Gate + Sync>(
     // No other status comes.
     ensures status { result.0 ≤ 8 }
 {
-    lf_format::laws::separated_is_readable();
-    apache_front::one_answer();
+    lf_compile::laws::one_answer();
+    lf_fronts::one_answer();
     match read_command(alloc, words) {
         Ok(command) => answer(alloc, &command, input, out, err),
         Err(OutOfMemory) => Status(6),
@@ -77,13 +77,11 @@ fn answer<S: Source, O: Sink, E: Sink>(
 {
     match command {
         Command::Lines(job) => work_lines(alloc, job, input, out, err),
-        Command::Show(format) => match show_text(alloc, format) {
-            Ok(text) => tell(out, text.as_slice(), 0),
-            Err(OutOfMemory) => Status(6),
-        },
-        Command::Refuse(refusal) => match refusal_text(alloc, *refusal) {
-            Ok(text) => tell(err, text.as_slice(), 2),
-            Err(OutOfMemory) => Status(6),
-        },
+        Command::Readable(slots) => tell_text(readable_text(alloc, *slots), out, 0),
+        Command::Witness(confusion) => tell_text(witness_text(alloc, confusion), out, 1),
+        Command::Show(format) => tell_text(show_text(alloc, format), out, 0),
+        Command::Refuse(refusal) => {
+            tell_text(refusal_text(alloc, refusal), err, refusal_status(refusal))
+        }
     }
 }

@@ -1,11 +1,18 @@
-ghost use Rattle.std.specs.Prelude.{◌≡◌, ◌+◌, ◌≤◌, ◌++◌, ◌∷◌, [], length, IfOk, OnOk};
+ghost use Rattle.std.specs.Prelude.{◌≡◌, ◌+◌, ◌≤◌, ◌++◌, ◌∷◌, [], length, codes, All, IfOk, OnOk};
+ghost use Rattle.std.specs.Fmt.{decimal};
+ghost use Rattle.lf_json.specs.Text.{HasJson};
+ghost use Rattle.lf_app.specs.declared.commands.Command.TheVariants as commands;
+ghost use Rattle.lf_app.specs.declared.commands.Refusal.TheVariants as refusals;
+ghost use Rattle.lf_app.specs.Progress.{HasRecords, IsReady};
 ghost use Rattle.lf_format.specs.Keeps.{slots_in};
-ghost use Rattle.lf_app.specs.Outcome.{cause_text, refusal_text as refusal_words, kind_text, absent_text, slot_line, slot_lines};
+ghost use Rattle.lf_app.specs.Outcome.{cause_text, refusal_text as refusal_words, refusal_status as status_of, witness_text as witness_words, kind_text, absent_text, slot_line, slot_lines};
 
 use crate::commands::Refusal;
 use crate::report::push_number;
-use lf_core::{Bytes, OutOfMemory};
+use lf_compile::Confusion;
+use lf_core::{Bytes, OutOfMemory, Record};
 use lf_format::{Absent, Cause, Format, Piece, Slot, ValueKind};
+use lf_json::{write_record, write_text};
 use std::alloc::Global;
 
 /// The word for a sort of values.
@@ -92,28 +99,105 @@ fn cause_word(cause: Cause) -> &'static [u8]
     }
 }
 
+/// Appends the lines that show two records of one line, without the last line feed.
+fn push_witness(confusion: &Confusion, into: &mut Bytes) -> Result<(), OutOfMemory>
+    requires { HasRecords confusion.now }
+    ensures { OnOk result (into.new ≡ into.old ++ witness_words confusion.now) }
+{
+    into.extend(b"ambiguous\nline ")?;
+    write_text(confusion.line.as_slice(), into)?;
+    into.extend(b"\nfirst ")?;
+    write_record(&confusion.first, into)?;
+    into.extend(b"\nsecond ")?;
+    write_record(&confusion.second, into)?;
+    Ok(())
+}
+
+/// Appends the fault of a format.
+fn push_fault(place: u32, cause: Cause, into: &mut Bytes) -> Result<(), OutOfMemory>
+    ensures { OnOk result (into.new ≡ into.old ++ refusal_words (refusals.BadFormat place cause)) }
+{
+    into.extend(b"logfmt: source format: ")?;
+    into.extend(cause_word(cause))?;
+    into.extend(b" at ")?;
+    push_number(place as u64, into)?;
+    Ok(())
+}
+
+/// Appends the size of a format that is too large.
+fn push_size(size: u64, into: &mut Bytes) -> Result<(), OutOfMemory>
+    ensures { OnOk result (into.new ≡ into.old ++ refusal_words (refusals.TooLarge size)) }
+{
+    into.extend(b"logfmt: size ")?;
+    push_number(size, into)?;
+    into.extend(b" over 4096")
+}
+
+/// Appends the record of a note line.
+fn push_note(record: &Record, into: &mut Bytes) -> Result<(), OutOfMemory>
+    requires { All HasJson record.now }
+    ensures { OnOk result (into.new ≡ into.old ++ refusal_words (refusals.NoteLine record.now)) }
+{
+    into.extend(b"logfmt: note line: ")?;
+    write_record(record, into)?;
+    Ok(())
+}
+
 /// Appends the words of a refusal.
-fn push_refusal(refusal: Refusal, into: &mut Bytes) -> Result<(), OutOfMemory>
-    ensures { OnOk result (into.new ≡ into.old ++ refusal_words refusal) }
+fn push_refusal(refusal: &Refusal, into: &mut Bytes) -> Result<(), OutOfMemory>
+    requires { IsReady (commands.Refuse refusal.now) }
+    ensures { OnOk result (into.new ≡ into.old ++ refusal_words refusal.now) }
 {
     match refusal {
         Refusal::BadWords => into.extend(b"logfmt: bad command line"),
         Refusal::NotBuilt => into.extend(b"logfmt: not built"),
-        Refusal::BadFormat(place, cause) => {
-            into.extend(b"logfmt: source format: ")?;
-            into.extend(cause_word(cause))?;
-            into.extend(b" at ")?;
-            push_number(place as u64, into)
-        }
+        Refusal::BadFormat(place, cause) => push_fault(*place, *cause, into),
+        Refusal::TooLarge(size) => push_size(*size, into),
+        Refusal::NoteLine(record) => push_note(record, into),
+        Refusal::Confused(confusion) => push_witness(confusion, into),
     }
 }
 
 /// What is said of a refusal.
-pub fn refusal_text(alloc: Global, refusal: Refusal) -> Result<Bytes, OutOfMemory>
-    ensures { IfOk result (λ text. text ≡ refusal_words refusal ++ 10 ∷ []) }
+pub fn refusal_text(alloc: Global, refusal: &Refusal) -> Result<Bytes, OutOfMemory>
+    requires { IsReady (commands.Refuse refusal.now) }
+    ensures { IfOk result (λ text. text ≡ refusal_words refusal.now ++ 10 ∷ []) }
 {
     let mut text = Bytes::new(alloc);
     push_refusal(refusal, &mut text)?;
+    text.push(b'\n')?;
+    Ok(text)
+}
+
+/// The status of a refusal.
+pub fn refusal_status(refusal: &Refusal) -> u8
+    ensures { result ≡ status_of refusal.now }
+{
+    match refusal {
+        Refusal::TooLarge(_) => 7,
+        Refusal::Confused(_) => 1,
+        _ => 2,
+    }
+}
+
+/// What is said of a format that isn't readable.
+pub fn witness_text(alloc: Global, confusion: &Confusion) -> Result<Bytes, OutOfMemory>
+    requires { HasRecords confusion.now }
+    ensures { IfOk result (λ text. text ≡ witness_words confusion.now ++ 10 ∷ []) }
+{
+    let mut text = Bytes::new(alloc);
+    push_witness(confusion, &mut text)?;
+    text.push(b'\n')?;
+    Ok(text)
+}
+
+/// What is said of a readable format.
+pub fn readable_text(alloc: Global, slots: u32) -> Result<Bytes, OutOfMemory>
+    ensures { IfOk result (λ text. text ≡ (codes "readable " ++ decimal slots) ++ 10 ∷ []) }
+{
+    let mut text = Bytes::new(alloc);
+    text.extend(b"readable ")?;
+    push_number(slots as u64, &mut text)?;
     text.push(b'\n')?;
     Ok(text)
 }

@@ -1,13 +1,13 @@
-ghost use Rattle.std.specs.Prelude.{IfOk};
-ghost use Rattle.lf_app.specs.Progress.{IsLineJob};
+ghost use Rattle.std.specs.Prelude.{ℕ, List, IfOk};
+ghost use Rattle.lf_stream.specs.Marks.{IsBody};
+ghost use Rattle.lf_app.specs.Progress.{CanWork};
 ghost use Rattle.lf_app.specs.declared.verdict.Verdict.TheVariants as verdict;
-ghost use Rattle.lf_app.specs.Verdicts.{IsFound, IsVerdict, IsOfFormat};
+ghost use Rattle.lf_app.specs.Verdicts.{format_of, has_notes, IsFound, IsVerdict, IsOfFormat};
 
-use crate::commands::{Job, Work};
-use crate::limits::LINE;
+use crate::commands::Job;
 use lf_core::{OutOfMemory, Record};
-use lf_format::scan;
 use lf_json::{BadRecord, read_record};
+use lf_stream::Body;
 use std::alloc::Global;
 
 /// What is found of a line: the record that prints it, or that none does; or the record that it is as
@@ -30,16 +30,16 @@ pub enum Verdict {
 
 /// What is found of a line.
 fn find(alloc: Global, job: &Job, line: &[u8]) -> Result<Finding, OutOfMemory>
-    requires { IsLineJob job.now }
-    ensures found { IfOk result (λ finding. IsFound job.now.work job.now.format line.now finding) }
-    ensures record { IfOk result (λ finding. IsOfFormat job.now.format (verdict.Found finding)) }
+    requires { CanWork job.now }
+    ensures found { IfOk result (λ finding. IsFound job.now line.now finding) }
+    ensures record { IfOk result (λ finding. IsOfFormat (format_of job.now) (verdict.Found finding)) }
 {
-    match job.work {
-        Work::Read => match scan(alloc, &job.format, line)? {
+    match job {
+        Job::Read(reader) => match reader.read(alloc, line)? {
             Some(record) => Ok(Finding::Read(record)),
             None => Ok(Finding::Unread),
         },
-        Work::Write => match read_record(alloc, line, &job.format) {
+        Job::Write(format) => match read_record(alloc, line, format) {
             Ok(record) => Ok(Finding::Written(record)),
             Err(BadRecord::OutOfMemory) => Err(OutOfMemory),
             Err(bad) => Ok(Finding::Bad(bad)),
@@ -48,13 +48,14 @@ fn find(alloc: Global, job: &Job, line: &[u8]) -> Result<Finding, OutOfMemory>
 }
 
 /// The verdict of a line.
-pub fn verdict_of(alloc: Global, job: &Job, line: &[u8]) -> Result<Verdict, OutOfMemory>
-    requires { IsLineJob job.now }
-    ensures verdict { IfOk result (λ said. IsVerdict job.now line.now said) }
-    ensures record { IfOk result (IsOfFormat job.now.format) }
+pub fn verdict_of(alloc: Global, job: &Job, body: Body<'_>) -> Result<Verdict, OutOfMemory>
+    requires { CanWork job.now }
+    ensures verdict { (line : List ℕ) → IsBody (has_notes job.now) line body.entry → IfOk result (IsVerdict job.now line) }
+    ensures record { IfOk result (IsOfFormat (format_of job.now)) }
 {
-    if line.len() > LINE {
-        return Ok(Verdict::Long);
+    match body {
+        Body::Line(line) => Ok(Verdict::Found(find(alloc, job, line)?)),
+        Body::Note => Ok(Verdict::Note),
+        Body::Long => Ok(Verdict::Long),
     }
-    Ok(Verdict::Found(find(alloc, job, line)?))
 }

@@ -17,6 +17,12 @@ held-text (kind.Padded d) t h = absurd h
 held-text (kind.Words d) t h = refl
 held-text (kind.Text d) t h = refl
 held-text (kind.Query d) t h = refl
+held-text (kind.Clf d) t h = absurd h
+held-text (kind.Iso d) t h = absurd h
+held-text (kind.IsoMillis d) t h = absurd h
+held-text (kind.Ha d) t h = absurd h
+held-text (kind.Date d) t h = absurd h
+held-text (kind.Clock d) t h = absurd h
 
 -- A text that is held is its own plain text.
 pub text-letters : (k : Kind) (v : Value) (t : List ℕ) → v ≡ Text t → HoldsKind k v → plain_text k v ≡ t
@@ -33,3 +39,9 @@ other-raw (kind.Text d) code (Text t) other h fits = absurd (other t refl)
 other-raw (kind.Text d) code v other h fits = absurd h
 other-raw (kind.Query d) code (Text t) other h fits = absurd (other t refl)
 other-raw (kind.Query d) code v other h fits = absurd h
+other-raw (kind.Clf d) code v other h fits = fits
+other-raw (kind.Iso d) code v other h fits = fits
+other-raw (kind.IsoMillis d) code v other h fits = fits
+other-raw (kind.Ha d) code v other h fits = fits
+other-raw (kind.Date d) code v other h fits = fits
+other-raw (kind.Clock d) code v other h fits = fits

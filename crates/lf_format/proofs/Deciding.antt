@@ -1,20 +1,22 @@
--- What can be decided of formats and values.
+-- Whether a slot holds a value can be decided.
 use Rattle.std.proofs.Common.{◌≡◌, ◌≢◌, ℕ, zero, suc, ◌<◌, ◌≤◌, Bool, true, false, List, [], ◌∷◌, length, refl, sym, ◌∙◌, arith, subst, ◌⊎◌, inl, inr}
 use lib.Signed.{le_z, le_z_yes}
-use Rattle.std.specs.Prelude.{T, Option, Some, None, ℤ, ◌≤ℤ◌, IfSome, Contains, All}
+use Rattle.std.specs.Prelude.{T, Option, Some, None, ℤ, pos, negsuc, neg_ℤ, ◌≤ℤ◌, IfSome, Contains, All}
+use Rattle.std.specs.Bool.{OnFalse}
 use Rattle.std.proofs.lemmas.Bool.{cases_Bool, cases_lt, cases_eq, false≢true}
 use Rattle.std.proofs.lemmas.List.Elements.{All-nil, All-cons, All-head, All-tail}
 use Rattle.lf_core.specs.Class.{is_letter}
 use Rattle.lf_core.specs.declared.class.Class.{Class}
 use Rattle.lf_core.specs.declared.values.Value.{Value}
-use Rattle.lf_core.specs.declared.values.Value.TheVariants.{Missing, Num, Text}
+use Rattle.lf_core.specs.declared.values.Value.TheVariants.{Missing, Num, Text, Moment as a_moment, Day as a_day, Clock as a_clock}
+use Rattle.lf_core.specs.declared.values.Moment.{Moment}
+use Rattle.lf_layout.specs.Calendar.{IsDay}
+use Rattle.lf_layout.specs.Layouts.{IsMoment, IsShown, writes_offset}
+use Rattle.lf_layout.specs.declared.layout.Layout.{Layout}
+use Rattle.lf_time.specs.TimeLayouts.{clf_layout, iso_offset_layout, iso_millis_layout, ha_layout}
 use Rattle.lf_domain.specs.Texts.{AllIn, IsSized, IsQuery}
 use Rattle.lf_domain.specs.WordLists.{is_word}
 use Rattle.lf_domain.specs.WordLaws.{contained_word, word_contained}
-use Rattle.lf_format.specs.declared.format.Piece.{Piece}
-use Rattle.lf_format.specs.declared.format.Piece.TheVariants as piece
-use Rattle.lf_format.specs.declared.kind.Coding.{Coding}
-use Rattle.lf_format.specs.declared.kind.Coding.TheVariants as coding
 use Rattle.lf_format.specs.declared.kind.Kind.{Kind}
 use Rattle.lf_format.specs.declared.kind.Kind.TheVariants as kind
 use Rattle.lf_format.specs.declared.slot.Absent.{Absent}
@@ -22,8 +24,6 @@ use Rattle.lf_format.specs.declared.slot.Absent.TheVariants as absent
 use Rattle.lf_format.specs.declared.slot.Slot.{Slot}
 use Rattle.lf_format.specs.Kinds.{HoldsKind, plain_text}
 use Rattle.lf_format.specs.Slots.{IsNotAbsence, Holds, holds_missing}
-use Rattle.lf_format.specs.Separated.{is_visible, in_byte_set, IsPlainKind, IsPlainSlot, IsApart, IsSeparated}
-use Rattle.lf_format.proofs.SomeTexts.{letter-parts}
 
 abbrev pub Decided : Type 0 → Type 0
 Decided P = P ⊎ (P → ⊥)
@@ -41,106 +41,6 @@ not-decided : {P : Type 0} → Decided P → Decided (P → ⊥)
 not-decided (inl p) = inr (λ h. h p)
 not-decided (inr p) = inl p
 
--- ---- formats whose lines are read
-
-raw-decided : (code : Coding) → Decided (code ≡ coding.Raw)
-raw-decided coding.Raw = inl refl
-raw-decided coding.ApacheHex = inr (λ e. cc)
-raw-decided coding.NginxHex = inr (λ e. cc)
-raw-decided coding.NginxJson = inr (λ e. cc)
-raw-decided coding.HaHash = inr (λ e. cc)
-raw-decided coding.HaCapture = inr (λ e. cc)
-raw-decided coding.HaEscape = inr (λ e. cc)
-raw-decided coding.PlusSpace = inr (λ e. cc)
-raw-decided coding.Doubled = inr (λ e. cc)
-
-apache-decided : (code : Coding) → Decided (code ≡ coding.ApacheHex)
-apache-decided coding.ApacheHex = inl refl
-apache-decided coding.Raw = inr (λ e. cc)
-apache-decided coding.NginxHex = inr (λ e. cc)
-apache-decided coding.NginxJson = inr (λ e. cc)
-apache-decided coding.HaHash = inr (λ e. cc)
-apache-decided coding.HaCapture = inr (λ e. cc)
-apache-decided coding.HaEscape = inr (λ e. cc)
-apache-decided coding.PlusSpace = inr (λ e. cc)
-apache-decided coding.Doubled = inr (λ e. cc)
-
-abbrev SeenBelow : Class → ℕ → Type 0
-SeenBelow set n = (b : ℕ) → b < n → is_letter set b ≡ true → is_visible b ≡ true
-
-seen-next : (set : Class) (n : ℕ) → SeenBelow set n → Decided (is_letter set n ≡ true → is_visible n ≡ true) → Decided (SeenBelow set (suc n))
-seen-next set n below (inl here) = inl (λ b lt is. elim (cases_eq b n) [
-  | inl same ↦ subst (λ (x : ℕ). is_visible x ≡ true) (sym same) (here (subst (λ (x : ℕ). is_letter set x ≡ true) same is))
-  | inr other ↦ below b (omega (arith, lt, other)) is
-])
-seen-next set n below (inr none) = inr (λ h. none (h n (omega arith)))
-
-here-decided : (set : Class) (n : ℕ) → Decided (is_letter set n ≡ true → is_visible n ≡ true)
-here-decided set n = elim (bool-decided (is_visible n)) [
-  | inl seen ↦ inl (λ _. seen)
-  | inr unseen ↦ elim (bool-decided (is_letter set n)) [ inl is ↦ inr (λ h. unseen (h is)) | inr isnt ↦ inl (λ is. absurd (isnt is)) ]
-]
-
-seen-decided : (set : Class) (n : ℕ) → Decided (SeenBelow set n)
-seen-decided set zero = inl (λ b lt is. absurd (omega (arith, lt)))
-seen-decided set (suc n) = elim (seen-decided set n) [
-  | inl below ↦ seen-next set n below (here-decided set n)
-  | inr none ↦ inr (λ h. none (λ b lt is. h b (omega (arith, lt)) is))
-]
-
-class-decided : (set : Class) → Decided ((b : ℕ) → is_letter set b ≡ true → is_visible b ≡ true)
-class-decided set = elim (seen-decided set 256) [
-  | inl seen ↦ inl (λ b is. seen b (letter-parts set b is).0 is)
-  | inr none ↦ inr (λ h. none (λ b lt is. h b is))
-]
-
-plain-decided : (k : Kind) (code : Coding) → Decided (IsPlainKind k code)
-plain-decided (kind.Num d) code = raw-decided code
-plain-decided (kind.Text d) code = both-decided (apache-decided code) (class-decided d.class)
-plain-decided (kind.DashZero d) code = inr (λ h. h)
-plain-decided (kind.Fixed3 d) code = inr (λ h. h)
-plain-decided (kind.Padded d) code = inr (λ h. h)
-plain-decided (kind.Words d) code = inr (λ h. h)
-plain-decided (kind.Query d) code = inr (λ h. h)
-
-one-dash : (a : Absent) → Decided (a ≢ absent.DashTwo)
-one-dash absent.No = inl (λ e. cc)
-one-dash absent.Dash = inl (λ e. cc)
-one-dash absent.DashTwo = inr (λ h. h refl)
-one-dash absent.Blank = inl (λ e. cc)
-
-slot-decided : (slot : Slot) → Decided (IsPlainSlot slot)
-slot-decided slot = elim (cases_Bool slot.quoted) [
-  | inl quoted ↦ inr (λ h. false≢true (sym h.unquoted ∙ quoted))
-  | inr bare ↦ elim (one-dash slot.absent) [
-    | inr two ↦ inr (λ h. two h.one_dash)
-    | inl one ↦ elim (plain-decided slot.kind slot.code) [
-      | inl plain ↦ inl (record { unquoted = bare; one_dash = one; kind = plain })
-      | inr other ↦ inr (λ h. other h.kind)
-    ]
-  ]
-]
-
-apart-decided : (k : Kind) (pieces : List Piece) → Decided (IsApart k pieces)
-apart-decided k [] = inl tt
-apart-decided k (piece.Literal [] ∷ pieces) = inr (λ h. h)
-apart-decided k (piece.Literal (b ∷ bs) ∷ pieces) = elim (cases_Bool (in_byte_set k b)) [ inl inside ↦ inr (λ h. false≢true (sym h ∙ inside)) | inr outside ↦ inl outside ]
-apart-decided k (piece.Slot slot ∷ pieces) = inr (λ h. h)
-
--- Whether the pieces are separated.
-pub separated_decided : (pieces : List Piece) → Decided (IsSeparated pieces)
-separated_decided [] = inl tt
-separated_decided (piece.Literal text ∷ pieces) = separated_decided pieces
-separated_decided (piece.Slot slot ∷ pieces) = elim (slot-decided slot) [
-  | inr other ↦ inr (λ h. other h.0)
-  | inl plain ↦ elim (apart-decided slot.kind pieces) [
-    | inr none ↦ inr (λ h. none h.1)
-    | inl apart ↦ elim (separated_decided pieces) [ inl rest ↦ inl (plain, apart, rest) | inr none ↦ inr (λ h. none h.2) ]
-  ]
-]
-
--- ---- values that a slot holds
-
 le-decided : (a b : ℤ) → Decided (a ≤ℤ b)
 le-decided a b = elim (cases_Bool (le_z a b)) [ inl t ↦ inl (le_z_yes (subst T (sym t) tt)) | inr f ↦ inr (λ h. subst T f h.le) ]
 
@@ -156,6 +56,17 @@ all-decided set (b ∷ text) = elim (bool-decided (is_letter set b)) [
 
 nat-decided : (a b : ℕ) → Decided (a ≤ b)
 nat-decided a b = elim (cases_lt b a) [ inl less ↦ inr (λ h. omega (arith, h, less)) | inr most ↦ inl (omega (arith, most)) ]
+
+less-decided : (a b : ℕ) → Decided (a < b)
+less-decided a b = elim (cases_lt a b) [ inl less ↦ inl less | inr most ↦ inr (λ h. omega (arith, h, most)) ]
+
+zero-decided : (n : ℕ) → Decided (n ≡ 0)
+zero-decided n = elim (cases_eq n 0) [ inl is ↦ inl is | inr other ↦ inr other ]
+
+none-decided : (z : ℤ) → Decided (z ≡ pos 0)
+none-decided (pos zero) = inl refl
+none-decided (pos (suc n)) = inr (λ e. cc)
+none-decided (negsuc n) = inr (λ e. cc)
 
 most-decided : (most : Option ℕ) (n : ℕ) → Decided (IfSome most (λ top. n ≤ top))
 most-decided None n = inl tt
@@ -202,6 +113,37 @@ contains-decided words text = elim (cases_Bool (is_word words text)) [
   | inr other ↦ inr (λ h. false≢true (sym other ∙ word_contained words text h))
 ]
 
+false-decided : {P : Type 0} (b : Bool) → Decided P → Decided (OnFalse b P)
+false-decided true p = inl tt
+false-decided false p = p
+
+moment-decided : (m : Moment) → Decided (IsMoment m)
+moment-decided m = elim (le-decided (neg_ℤ (pos 62135596800)) m.seconds) [
+  | inr none ↦ inr (λ h. none h.0)
+  | inl least ↦ elim (le-decided m.seconds (pos 253402300799)) [
+    | inr none ↦ inr (λ h. none h.1)
+    | inl most ↦ elim (nat-decided m.millis 999) [
+      | inr none ↦ inr (λ h. none h.2)
+      | inl millis ↦ elim (le-decided (neg_ℤ (pos 1439)) m.offset) [
+        | inr none ↦ inr (λ h. none h.3)
+        | inl west ↦ elim (le-decided m.offset (pos 1439)) [ inl east ↦ inl (least, most, millis, west, east) | inr none ↦ inr (λ h. none h.4) ]
+      ]
+    ]
+  ]
+]
+
+shown-decided : (layout : Layout) (m : Moment) → Decided (IsShown layout m)
+shown-decided layout m = elim (moment-decided m) [
+  | inr none ↦ inr (λ h. none h.0)
+  | inl is ↦ elim (false-decided layout.millis (zero-decided m.millis)) [
+    | inr none ↦ inr (λ h. none h.1)
+    | inl millis ↦ elim (false-decided (writes_offset layout.zone) (none-decided m.offset)) [ inl offset ↦ inl (is, millis, offset) | inr none ↦ inr (λ h. none h.2) ]
+  ]
+]
+
+day-decided : (day : ℤ) → Decided (IsDay day)
+day-decided day = both-decided (le-decided (neg_ℤ (pos 719162)) day) (le-decided day (pos 2932896))
+
 held-decided : (k : Kind) (v : Value) → Decided (HoldsKind k v)
 held-decided (kind.Num d) (Num n) = both-decided (le-decided d.lo n) (le-decided n d.hi)
 held-decided (kind.DashZero d) (Num n) = both-decided (le-decided d.lo n) (le-decided n d.hi)
@@ -210,6 +152,12 @@ held-decided (kind.Padded d) (Num n) = both-decided (le-decided d.lo n) (le-deci
 held-decided (kind.Words d) (Text t) = both-decided (contains-decided d.list t) (bytes-decided t)
 held-decided (kind.Text d) (Text t) = sized-decided d.class d.min d.max t
 held-decided (kind.Query d) (Text t) = query-decided d.class t
+held-decided (kind.Clf d) (a_moment m) = shown-decided (clf_layout d.bracketed) m
+held-decided (kind.Iso d) (a_moment m) = shown-decided iso_offset_layout m
+held-decided (kind.IsoMillis d) (a_moment m) = shown-decided iso_millis_layout m
+held-decided (kind.Ha d) (a_moment m) = shown-decided ha_layout m
+held-decided (kind.Date d) (a_day day) = day-decided day
+held-decided (kind.Clock d) (a_clock second) = less-decided second 86400
 held-decided (kind.Num d) v = inr (λ h. h)
 held-decided (kind.DashZero d) v = inr (λ h. h)
 held-decided (kind.Fixed3 d) v = inr (λ h. h)
@@ -217,6 +165,12 @@ held-decided (kind.Padded d) v = inr (λ h. h)
 held-decided (kind.Words d) v = inr (λ h. h)
 held-decided (kind.Text d) v = inr (λ h. h)
 held-decided (kind.Query d) v = inr (λ h. h)
+held-decided (kind.Clf d) v = inr (λ h. h)
+held-decided (kind.Iso d) v = inr (λ h. h)
+held-decided (kind.IsoMillis d) v = inr (λ h. h)
+held-decided (kind.Ha d) v = inr (λ h. h)
+held-decided (kind.Date d) v = inr (λ h. h)
+held-decided (kind.Clock d) v = inr (λ h. h)
 
 present-decided : (a : Absent) (quoted : Bool) (text : List ℕ) → Decided (IsNotAbsence a quoted text)
 present-decided absent.No quoted text = inl tt

@@ -1,11 +1,8 @@
-pub mod Escapes
-pub mod Runs
 pub mod Coded
 pub mod SlotLaws
-pub mod ByLetters
-pub mod LineLaws
-pub mod ScanLaws
 pub mod PlainTexts
+pub mod TimeTexts
+pub mod TimeValues
 pub mod SomeTexts
 pub mod SomeValues
 pub mod Adding

@@ -1,11 +1,13 @@
 -- What the slots of a format keep, for each kind: its code takes the letters of the plain texts, and it holds some value.
 use Rattle.std.proofs.Common.{◌≡◌, ℕ, zero, suc, ◌-◌, ◌/◌, ◌%◌, ◌<◌, ◌≤◌, Bool, true, false, cond, ltb, ◌==◌, List, [], ◌∷◌, refl, sym, subst, arith, inl, inr}
-use Rattle.std.specs.Prelude.{ℤ, pos, negsuc, ◌≤ℤ◌, None, All, replicate}
+use Rattle.std.specs.Prelude.{ℤ, pos, negsuc, ◌≤ℤ◌, Option, None, Some, All, replicate}
 use Rattle.std.specs.List.{list_all}
 use Rattle.std.proofs.lemmas.Bool.{and_parts, cases_Bool, eqb-true}
 use Rattle.std.proofs.lemmas.Bool.Decides.{nat_tests}
-use Rattle.std.proofs.lemmas.List.Elements.{All-nil, All-cons, All-append, All-replicate, All-weaker, All-contains}
+use Rattle.std.proofs.lemmas.List.Elements.{All-nil, All-cons, All-head, All-tail, All-append, All-replicate, All-weaker, All-contains}
 use Rattle.lf_core.specs.Class.{is_letter, is_member}
+use Rattle.lf_core.specs.Domain.{accepts}
+use Rattle.lf_core.proofs.Accepts.{accepts-first}
 use Rattle.lf_core.specs.declared.class.Class.{Class}
 use Rattle.lf_core.specs.declared.values.Value.{Value}
 use Rattle.lf_core.specs.declared.values.Value.TheVariants.{Missing, Num, Text}
@@ -16,6 +18,7 @@ use Rattle.lf_number.specs.declared.num_range.NumRange.{NumRange}
 use Rattle.lf_number.specs.declared.dash_zero.DashZero.{DashZero}
 use Rattle.lf_number.specs.declared.fixed3.Fixed3.{Fixed3}
 use Rattle.lf_number.specs.declared.padded.Padded.{Padded}
+use Rattle.lf_number.specs.declared.padded.Radix.{Radix}
 use Rattle.lf_number.specs.Numbers.{IsRadix, digit_letter, digits, width, last_digits, magnitude, number_text, dash_text, thousandths_text, padded_text, num_text}
 use Rattle.lf_number.specs.Digits.{below, ten, rest-below, quotient-less, digits-one, digits-more}
 use Rattle.lf_number.specs.Radix.{radix_of}
@@ -24,14 +27,18 @@ use Rattle.lf_escape.specs.Codes.{byte_takes, line_takes}
 use Rattle.lf_format.specs.declared.kind.Kind.{Kind}
 use Rattle.lf_format.specs.declared.kind.Kind.TheVariants as kind
 use Rattle.lf_format.specs.declared.kind.Coding.{Coding}
-use Rattle.lf_format.specs.declared.kind.Coding.TheVariants.{Raw}
+use Rattle.lf_format.specs.declared.kind.Coding.TheVariants.{Raw, ApacheHex, NginxHex, NginxJson, HaHash, HaCapture, HaEscape, PlusSpace, Doubled}
 use Rattle.lf_format.specs.declared.slot.Slot.{Slot}
-use Rattle.lf_format.specs.Kinds.{HoldsKind, plain_text}
+use Rattle.lf_format.specs.declared.slot.Absent.{Absent}
+use Rattle.lf_format.specs.declared.slot.Absent.TheVariants.{No}
+use Rattle.lf_format.specs.Kinds.{HoldsKind, plain_text, kind_machine, kind_laws}
 use Rattle.lf_format.specs.Codings.{coding_takes}
 use Rattle.lf_format.specs.Slots.{holds_missing, IsNotAbsence}
-use Rattle.lf_format.specs.CommonKinds.{none_fits, texts, numbers, dashed}
-use Rattle.lf_format.specs.Keeps.{FitsCode, TakesPlain, HoldsSome, KeepsSlot}
+use Rattle.lf_format.specs.CommonKinds.{none_fits, some_fits, texts, bounded_texts, numbers, dashed, fixed3, padded}
+use Rattle.lf_format.specs.Keeps.{is_no_feed, FitsCode, TakesPlain, HoldsSome, KeepsSlot}
 use Rattle.lf_format.proofs.SlotLaws.{held-present, parts-hold}
+use Rattle.lf_format.proofs.TimeTexts.{AllClear}
+use Rattle.lf_format.proofs.TimeValues.{IsTime, time-some, time-clear}
 
 -- the code takes each letter
 abbrev pub TakesAll : Coding → List ℕ → Type 0
@@ -68,6 +75,18 @@ class_of_lines set none letter h =
       | inl feed ↦ absurd (none (subst (λ (b : ℕ). is_letter set b ≡ true) (eqb-true letter 10 feed) h))
       | inr other ↦ simp (low, other)
     ]
+
+-- Each code takes each class without the line feed.
+pub class_of_code : (code : Coding) (set : Class) → is_letter set 10 ≡ false → TakesClass code set
+class_of_code Raw set none = class_of_lines set (λ is. cc)
+class_of_code ApacheHex set none = class_of_bytes set
+class_of_code NginxHex set none = class_of_bytes set
+class_of_code NginxJson set none = class_of_bytes set
+class_of_code HaHash set none = class_of_bytes set
+class_of_code HaCapture set none = class_of_bytes set
+class_of_code HaEscape set none = class_of_lines set (λ is. cc)
+class_of_code PlusSpace set none = class_of_lines set (λ is. cc)
+class_of_code Doubled set none = class_of_lines set (λ is. cc)
 
 -- ---- words
 
@@ -119,8 +138,8 @@ module _ (r : ℕ) (is : IsRadix r) where
   last_taken zero n = All-nil IsTaken
   last_taken (suc j) n = All-append IsTaken (last_digits r j (n / r)) (digit_letter (n % r) ∷ []) (last_taken j (n / r)) (one_taken (digit_letter (n % r)) (digit_taken (n % r) (omega (arith, rest-below r is n, is.most))))
 
-  padded_taken : (least : ℕ) (n : ℤ) → AllTaken (padded_text r least n)
-  padded_taken least n = All-append IsTaken (replicate (least - width r (magnitude n)) 48) (digits r (magnitude n)) (All-replicate IsTaken (least - width r (magnitude n)) 48 refl) (digits_taken (magnitude n))
+  padded_text_taken : (least : ℕ) (n : ℤ) → AllTaken (padded_text r least n)
+  padded_text_taken least n = All-append IsTaken (replicate (least - width r (magnitude n)) 48) (digits r (magnitude n)) (All-replicate IsTaken (least - width r (magnitude n)) 48 refl) (digits_taken (magnitude n))
 
 number_taken : (n : ℤ) → AllTaken (number_text n)
 number_taken (pos n) = digits_taken 10 ten n
@@ -142,11 +161,40 @@ num_range_taken d v h = num_taken number_text number_taken v
 pub dash_zero_taken : (d : DashZero) → TakesPlain (kind.DashZero d) Raw
 dash_zero_taken d v h = num_taken dash_text dash_taken v
 
-pub fixed3_taken : (d : Fixed3) → TakesPlain (kind.Fixed3 d) Raw
-fixed3_taken d v h = num_taken thousandths_text thousandths_taken v
+pub fixed3_kind_taken : (d : Fixed3) → TakesPlain (kind.Fixed3 d) Raw
+fixed3_kind_taken d v h = num_taken thousandths_text thousandths_taken v
 
 pub padded_kind_taken : (d : Padded) → TakesPlain (kind.Padded d) Raw
-padded_kind_taken d v h = num_taken (padded_text (radix_of d.radix) d.width) (padded_taken (radix_of d.radix) (radix_is d.radix) d.width) v
+padded_kind_taken d v h = num_taken (padded_text (radix_of d.radix) d.width) (padded_text_taken (radix_of d.radix) (radix_is d.radix) d.width) v
+
+-- ---- times
+
+accepted_bytes : (next : ℕ → ℕ → Option ℕ) (ends : ℕ → Bool) (count : ℕ) → ((point letter after : ℕ) → point < count → next point letter ≡ Some after → (letter < 256) × (after < count)) → (point : ℕ) (text : List ℕ) → point < count → accepts next ends point text ≡ true → All (λ letter. letter < 256) text
+accepted_bytes next ends count stays point [] low h = All-nil (λ letter. letter < 256)
+accepted_bytes next ends count stays point (letter ∷ text) low h =
+    let first = accepts-first next ends point letter text h in
+    let after = stays point letter first.0 low first.1 in
+    All-cons (λ letter. letter < 256) letter text after.0 (accepted_bytes next ends count stays first.0 text after.1 first.2)
+
+domain_byte : (k : Kind) (v : Value) → HoldsKind k v → All (λ letter. letter < 256) (plain_text k v)
+domain_byte k v h =
+    let m = kind_machine k in
+    let laws = kind_laws k in
+    accepted_bytes (m.next) (m.is_end) (m.count) laws.stays m.first (plain_text k v) laws.begins (laws.complete v h)
+
+line_taken : (letter : ℕ) → letter < 256 → is_no_feed letter ≡ true → line_takes letter ≡ true
+line_taken letter low clear = grind (arith, nat_tests)
+
+lines_taken : (text : List ℕ) → All (λ letter. letter < 256) text → AllClear text → AllTaken text
+lines_taken [] low clear = All-nil IsTaken
+lines_taken (letter ∷ text) low clear =
+    All-cons IsTaken letter text
+    (line_taken letter (All-head (λ letter. letter < 256) letter text low) (All-head (λ letter. is_no_feed letter ≡ true) letter text clear))
+    (lines_taken text (All-tail (λ letter. letter < 256) letter text low) (All-tail (λ letter. is_no_feed letter ≡ true) letter text clear))
+
+-- Times as they are.
+pub time_taken : (k : Kind) → IsTime k → TakesPlain k Raw
+time_taken k is v h = lines_taken (plain_text k v) (domain_byte k v h) (time-clear k is v)
 
 -- ---- the common kinds
 
@@ -159,6 +207,15 @@ numbers_taken lo hi = num_range_taken (record { lo = lo; hi = hi })
 pub dashed_taken : (lo hi : ℤ) (not_negative : pos 0 ≤ℤ lo) → TakesPlain (dashed lo hi not_negative) Raw
 dashed_taken lo hi not_negative = dash_zero_taken (record { lo = lo; hi = hi; not_negative = not_negative })
 
+pub bounded_texts_taken : (code : Coding) (set : Class) (min max : ℕ) (least : min ≤ 99999) (most : max ≤ 99999) → TakesClass code set → TakesPlain (bounded_texts set min max least most) code
+bounded_texts_taken code set min max least most within = text_taken code (record { class = set; min = min; max = Some max; min_bounded = least; max_bounded = some_fits max most }) within
+
+pub fixed3_taken : (lo hi : ℤ) (not_negative : pos 0 ≤ℤ lo) → TakesPlain (fixed3 lo hi not_negative) Raw
+fixed3_taken lo hi not_negative = fixed3_kind_taken (record { lo = lo; hi = hi; not_negative = not_negative })
+
+pub padded_taken : (radix : Radix) (width : ℕ) (lo hi : ℤ) (not_negative : pos 0 ≤ℤ lo) → TakesPlain (padded radix width lo hi not_negative) Raw
+padded_taken radix width lo hi not_negative = padded_kind_taken (record { radix = radix; width = width; lo = lo; hi = hi; not_negative = not_negative })
+
 -- ---- the code
 
 -- Each kind may have no code of its own.
@@ -170,6 +227,12 @@ raw_fits (kind.Padded d) = refl
 raw_fits (kind.Words d) = refl
 raw_fits (kind.Text d) = tt
 raw_fits (kind.Query d) = tt
+raw_fits (kind.Clf d) = refl
+raw_fits (kind.Iso d) = refl
+raw_fits (kind.IsoMillis d) = refl
+raw_fits (kind.Ha d) = refl
+raw_fits (kind.Date d) = refl
+raw_fits (kind.Clock d) = refl
 
 -- ---- some value
 
@@ -180,6 +243,14 @@ missing_held slot h = (Missing, h)
 -- A slot holds each value of its kind that isn't taken for absence.
 pub value_held : (slot : Slot) (v : Value) → HoldsKind slot.kind v → IsNotAbsence slot.absent slot.quoted (plain_text slot.kind v) → HoldsSome slot
 value_held slot v h other = (v, parts-hold slot v (held-present slot.kind v h) h other)
+
+-- A slot that prints no absence holds each value of its kind.
+pub any_held : (slot : Slot) (v : Value) → slot.absent ≡ No → HoldsKind slot.kind v → HoldsSome slot
+any_held slot v none h = value_held slot v h (subst (λ (a : Absent). IsNotAbsence a slot.quoted (plain_text slot.kind v)) (sym none) tt)
+
+-- A slot of times holds some time.
+pub time_held : (slot : Slot) → IsTime slot.kind → HoldsSome slot
+time_held slot is = let some = time-some slot.kind slot.absent slot.quoted is in value_held slot some.0 some.1 some.2
 
 -- ---- whole slots
 
@@ -194,6 +265,14 @@ keeps_as slot k code kind_is code_is fits takes some = record {
 pub texts_keeps : (slot : Slot) (code : Coding) (set : Class) (min : ℕ) (fits : min ≤ 99999) → slot.kind ≡ texts set min fits → slot.code ≡ code → TakesClass code set → HoldsSome slot → KeepsSlot slot
 texts_keeps slot code set min fits kind_is code_is within some = keeps_as slot (texts set min fits) code kind_is code_is tt (texts_taken code set min fits within) some
 
+-- The same with an upper bound on the number of letters.
+pub bounded_texts_keeps : (slot : Slot) (code : Coding) (set : Class) (min max : ℕ) (least : min ≤ 99999) (most : max ≤ 99999) → slot.kind ≡ bounded_texts set min max least most → slot.code ≡ code → TakesClass code set → HoldsSome slot → KeepsSlot slot
+bounded_texts_keeps slot code set min max least most kind_is code_is within some = keeps_as slot (bounded_texts set min max least most) code kind_is code_is tt (bounded_texts_taken code set min max least most within) some
+
+-- A query under a code that takes the question mark and its class.
+pub query_keeps : (slot : Slot) (code : Coding) (d : QueryText) → slot.kind ≡ kind.Query d → slot.code ≡ code → coding_takes code 63 ≡ true → TakesClass code d.class → HoldsSome slot → KeepsSlot slot
+query_keeps slot code d kind_is code_is mark within some = keeps_as slot (kind.Query d) code kind_is code_is tt (query_taken code d mark within) some
+
 -- A number as it is.
 pub numbers_keeps : (slot : Slot) (lo hi : ℤ) → slot.kind ≡ numbers lo hi → slot.code ≡ Raw → HoldsSome slot → KeepsSlot slot
 numbers_keeps slot lo hi kind_is code_is some = keeps_as slot (numbers lo hi) Raw kind_is code_is refl (numbers_taken lo hi) some
@@ -201,3 +280,16 @@ numbers_keeps slot lo hi kind_is code_is some = keeps_as slot (numbers lo hi) Ra
 -- Words as they are, none with a line feed.
 pub words_keeps : (slot : Slot) (d : Words) → slot.kind ≡ kind.Words d → slot.code ≡ Raw → list_all (λ word. list_all line_takes word) d.list ≡ true → HoldsSome slot → KeepsSlot slot
 words_keeps slot d kind_is code_is all some = keeps_as slot (kind.Words d) Raw kind_is code_is refl (words_taken Raw d all) some
+
+pub dashed_keeps : (slot : Slot) (lo hi : ℤ) (not_negative : pos 0 ≤ℤ lo) → slot.kind ≡ dashed lo hi not_negative → slot.code ≡ Raw → HoldsSome slot → KeepsSlot slot
+dashed_keeps slot lo hi not_negative kind_is code_is some = keeps_as slot (dashed lo hi not_negative) Raw kind_is code_is refl (dashed_taken lo hi not_negative) some
+
+pub fixed3_keeps : (slot : Slot) (lo hi : ℤ) (not_negative : pos 0 ≤ℤ lo) → slot.kind ≡ fixed3 lo hi not_negative → slot.code ≡ Raw → HoldsSome slot → KeepsSlot slot
+fixed3_keeps slot lo hi not_negative kind_is code_is some = keeps_as slot (fixed3 lo hi not_negative) Raw kind_is code_is refl (fixed3_taken lo hi not_negative) some
+
+pub padded_keeps : (slot : Slot) (radix : Radix) (width : ℕ) (lo hi : ℤ) (not_negative : pos 0 ≤ℤ lo) → slot.kind ≡ padded radix width lo hi not_negative → slot.code ≡ Raw → HoldsSome slot → KeepsSlot slot
+padded_keeps slot radix width lo hi not_negative kind_is code_is some = keeps_as slot (padded radix width lo hi not_negative) Raw kind_is code_is refl (padded_taken radix width lo hi not_negative) some
+
+-- A time as it is.
+pub time_keeps : (slot : Slot) (k : Kind) → IsTime k → slot.kind ≡ k → slot.code ≡ Raw → KeepsSlot slot
+time_keeps slot k is kind_is code_is = keeps_as slot k Raw kind_is code_is (raw_fits k) (time_taken k is) (time_held slot (subst IsTime (sym kind_is) is))

@@ -43,6 +43,12 @@ zero-least (kind.Padded d) n t h = cc
 zero-least (kind.Words d) n t h = cc
 zero-least (kind.Text d) n t h = cc
 zero-least (kind.Query d) n t h = cc
+zero-least (kind.Clf d) n t h = cc
+zero-least (kind.Iso d) n t h = cc
+zero-least (kind.IsoMillis d) n t h = cc
+zero-least (kind.Ha d) n t h = cc
+zero-least (kind.Date d) n t h = cc
+zero-least (kind.Clock d) n t h = cc
 
 only-zero : (n : ℤ) → pos 0 ≤ℤ n → n ≤ℤ pos 0 → n ≡ pos 0
 only-zero n low high = grind (arith, ints, low, high)

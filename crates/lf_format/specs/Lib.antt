@@ -3,8 +3,6 @@ pub mod Kinds
 pub mod Codings
 pub mod Slots
 pub mod Lines
-pub mod Separated
-pub mod Reading
 pub mod Absence
 pub mod Keeps
 pub mod CommonKinds

@@ -68,6 +68,7 @@ pub(crate) fn is_present(kind: &Kind, absent: Absent, quoted: bool, value: &Valu
     match value {
         Value::Text(text) => is_not_absence(absent, quoted, text.as_slice()),
         Value::Num(number) => is_present_number(kind, absent, quoted, *number),
-        _ => unreachable!(),
+        Value::Moment(_) | Value::Day(_) | Value::Clock(_) => true,
+        Value::Missing => unreachable!(),
     }
 }

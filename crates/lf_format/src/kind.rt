@@ -1,14 +1,15 @@
 ghost use Rattle.std.specs.Prelude.{◌≡◌, ◌≤◌, ◌≤ℤ◌, ℕ, pos, List, IfOk};
 ghost use Rattle.lf_core.specs.declared.values.Value.{Value};
 ghost use Rattle.lf_format.specs.Kinds.{value_kind};
-ghost use Rattle.lf_format.specs.CommonKinds.{texts as texts_of, dashed as dashed_of};
+ghost use Rattle.lf_format.specs.CommonKinds.{bounded_texts as bounded_texts_of, dashed as dashed_of, fixed3 as fixed3_of, numbers as numbers_of, padded as padded_of, texts as texts_of};
 
 use lf_core::{Bytes, Class, Domain, OutOfMemory, Value};
-use lf_domain::{DashZero, Fixed3, NumRange, Padded, QueryText, TextSet, Words};
+use lf_domain::{DashZero, Fixed3, NumRange, Padded, QueryText, Radix, TextSet, Words};
 use lf_escape::{
     ApacheHex, Code, Doubled, HaCapture, HaEscape, HaHash, NginxHex, NginxJson, PlusSpace, Raw,
     Word,
 };
+use lf_time::{ClfTime, HaTime, IsoMillisZ, IsoOffset, W3cClock, W3cDate};
 use std::alloc::Global;
 
 /// The domain of a slot's values.
@@ -21,6 +22,12 @@ pub enum Kind {
     Words(Words),
     Text(TextSet),
     Query(QueryText),
+    Clf(ClfTime),
+    Iso(IsoOffset),
+    IsoMillis(IsoMillisZ),
+    Ha(HaTime),
+    Date(W3cDate),
+    Clock(W3cClock),
 }
 
 /// What sort of values a domain has, also where it holds none.
@@ -46,12 +53,53 @@ impl Kind {
         })
     }
 
+    /// The texts of `min` to `max` letters of the class.
+    pub fn bounded_texts(class: Class, min: u32, max: u32) -> Kind
+        requires least { min ≤ 99999 }
+        requires most { max ≤ 99999 }
+        ensures { (least : min ≤ 99999) (most : max ≤ 99999) → result ≡ bounded_texts_of class min max least most }
+    {
+        Kind::Text(TextSet {
+            class,
+            min,
+            max: Some(max),
+        })
+    }
+
+    /// The whole numbers from `lo` to `hi`.
+    pub fn numbers(lo: i64, hi: i64) -> Kind
+        ensures { result ≡ numbers_of lo hi }
+    {
+        Kind::Num(NumRange { lo, hi })
+    }
+
     /// The whole numbers from `lo` to `hi`, with zero as `-`.
     pub fn dashed(lo: i64, hi: i64) -> Kind
         requires { pos 0 ≤ℤ lo }
         ensures { (not_negative : pos 0 ≤ℤ lo) → result ≡ dashed_of lo hi not_negative }
     {
         Kind::DashZero(DashZero { lo, hi })
+    }
+
+    /// The whole numbers from `lo` to `hi`, in thousandths.
+    pub fn fixed3(lo: i64, hi: i64) -> Kind
+        requires { pos 0 ≤ℤ lo }
+        ensures { (not_negative : pos 0 ≤ℤ lo) → result ≡ fixed3_of lo hi not_negative }
+    {
+        Kind::Fixed3(Fixed3 { lo, hi })
+    }
+
+    /// The whole numbers from `lo` to `hi`, with leading zeros only up to the width.
+    pub fn padded(radix: Radix, width: u8, lo: i64, hi: i64) -> Kind
+        requires { pos 0 ≤ℤ lo }
+        ensures { (not_negative : pos 0 ≤ℤ lo) → result ≡ padded_of radix width lo hi not_negative }
+    {
+        Kind::Padded(Padded {
+            radix,
+            width,
+            lo,
+            hi,
+        })
     }
 
     /// What sort of values the domain has.
@@ -63,6 +111,9 @@ impl Kind {
                 ValueKind::Number
             }
             Kind::Words(_) | Kind::Text(_) | Kind::Query(_) => ValueKind::Text,
+            Kind::Clf(_) | Kind::Iso(_) | Kind::IsoMillis(_) | Kind::Ha(_) => ValueKind::Moment,
+            Kind::Date(_) => ValueKind::Day,
+            Kind::Clock(_) => ValueKind::Clock,
         }
     }
 
@@ -78,6 +129,12 @@ impl Kind {
             Kind::Words(d) => Ok(Kind::Words(d.copy()?)),
             Kind::Text(d) => Ok(Kind::Text(*d)),
             Kind::Query(d) => Ok(Kind::Query(*d)),
+            Kind::Clf(d) => Ok(Kind::Clf(*d)),
+            Kind::Iso(d) => Ok(Kind::Iso(*d)),
+            Kind::IsoMillis(d) => Ok(Kind::IsoMillis(*d)),
+            Kind::Ha(d) => Ok(Kind::Ha(*d)),
+            Kind::Date(d) => Ok(Kind::Date(*d)),
+            Kind::Clock(d) => Ok(Kind::Clock(*d)),
         }
     }
 }
@@ -104,6 +161,12 @@ impl Domain for Kind {
             Kind::Words(d) => d.check(value),
             Kind::Text(d) => d.check(value),
             Kind::Query(d) => d.check(value),
+            Kind::Clf(d) => d.check(value),
+            Kind::Iso(d) => d.check(value),
+            Kind::IsoMillis(d) => d.check(value),
+            Kind::Ha(d) => d.check(value),
+            Kind::Date(d) => d.check(value),
+            Kind::Clock(d) => d.check(value),
         }
     }
 
@@ -116,6 +179,12 @@ impl Domain for Kind {
             Kind::Words(d) => d.write_plain(value, into),
             Kind::Text(d) => d.write_plain(value, into),
             Kind::Query(d) => d.write_plain(value, into),
+            Kind::Clf(d) => d.write_plain(value, into),
+            Kind::Iso(d) => d.write_plain(value, into),
+            Kind::IsoMillis(d) => d.write_plain(value, into),
+            Kind::Ha(d) => d.write_plain(value, into),
+            Kind::Date(d) => d.write_plain(value, into),
+            Kind::Clock(d) => d.write_plain(value, into),
         }
     }
 
@@ -128,6 +197,12 @@ impl Domain for Kind {
             Kind::Words(d) => d.read_plain(alloc, text),
             Kind::Text(d) => d.read_plain(alloc, text),
             Kind::Query(d) => d.read_plain(alloc, text),
+            Kind::Clf(d) => d.read_plain(alloc, text),
+            Kind::Iso(d) => d.read_plain(alloc, text),
+            Kind::IsoMillis(d) => d.read_plain(alloc, text),
+            Kind::Ha(d) => d.read_plain(alloc, text),
+            Kind::Date(d) => d.read_plain(alloc, text),
+            Kind::Clock(d) => d.read_plain(alloc, text),
         }
     }
 
@@ -140,6 +215,12 @@ impl Domain for Kind {
             Kind::Words(d) => d.points(),
             Kind::Text(d) => d.points(),
             Kind::Query(d) => d.points(),
+            Kind::Clf(d) => d.points(),
+            Kind::Iso(d) => d.points(),
+            Kind::IsoMillis(d) => d.points(),
+            Kind::Ha(d) => d.points(),
+            Kind::Date(d) => d.points(),
+            Kind::Clock(d) => d.points(),
         }
     }
 
@@ -152,6 +233,12 @@ impl Domain for Kind {
             Kind::Words(d) => d.start(),
             Kind::Text(d) => d.start(),
             Kind::Query(d) => d.start(),
+            Kind::Clf(d) => d.start(),
+            Kind::Iso(d) => d.start(),
+            Kind::IsoMillis(d) => d.start(),
+            Kind::Ha(d) => d.start(),
+            Kind::Date(d) => d.start(),
+            Kind::Clock(d) => d.start(),
         }
     }
 
@@ -164,6 +251,12 @@ impl Domain for Kind {
             Kind::Words(d) => d.step(point, letter),
             Kind::Text(d) => d.step(point, letter),
             Kind::Query(d) => d.step(point, letter),
+            Kind::Clf(d) => d.step(point, letter),
+            Kind::Iso(d) => d.step(point, letter),
+            Kind::IsoMillis(d) => d.step(point, letter),
+            Kind::Ha(d) => d.step(point, letter),
+            Kind::Date(d) => d.step(point, letter),
+            Kind::Clock(d) => d.step(point, letter),
         }
     }
 
@@ -176,6 +269,12 @@ impl Domain for Kind {
             Kind::Words(d) => d.ends(point),
             Kind::Text(d) => d.ends(point),
             Kind::Query(d) => d.ends(point),
+            Kind::Clf(d) => d.ends(point),
+            Kind::Iso(d) => d.ends(point),
+            Kind::IsoMillis(d) => d.ends(point),
+            Kind::Ha(d) => d.ends(point),
+            Kind::Date(d) => d.ends(point),
+            Kind::Clock(d) => d.ends(point),
         }
     }
 }

@@ -7,10 +7,6 @@ mod fault;
 mod format;
 mod front;
 mod kind;
-pub mod laws;
-mod reading;
-mod scanning;
-mod separation;
 mod size;
 mod slot;
 mod some;
@@ -20,8 +16,6 @@ pub use fault::{Cause, FormatFault, ItemFault};
 pub use format::{Format, LineEnd, Piece};
 pub use front::{Front, Given, SLOTS, Taken, one_answer, read_text};
 pub use kind::{Coding, Kind, ValueKind};
-pub use scanning::scan;
-pub use separation::separated;
 pub use slot::{Absent, Slot};
 
 #[cfg(test)]

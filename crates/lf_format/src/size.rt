@@ -32,11 +32,15 @@ fn sum_sizes(pieces: &[Piece]) -> u64
     }
 }
 
-/// The size of the domain, which is the number of its machine's points.
+/// The size of the domain, which is the number of its machine's points where it isn't one of times.
 fn kind_size_of(kind: &Kind) -> u32
     ensures { result ≡ kind_size kind.now }
 {
-    kind.points()
+    match kind {
+        Kind::Clf(_) | Kind::Iso(_) | Kind::IsoMillis(_) | Kind::Ha(_) => 300,
+        Kind::Date(_) | Kind::Clock(_) => 300,
+        _ => kind.points(),
+    }
 }
 
 /// How many proper prefixes the words of the code have, the empty one counted.

@@ -89,5 +89,11 @@ pub(crate) fn has_present(kind: &Kind, absent: Absent, quoted: bool) -> bool
         Kind::Words(d) => has_present_word(d, absent, quoted),
         Kind::Text(d) => has_present_text(*d, absent, quoted),
         Kind::Query(_) => true,
+        Kind::Clf(_) => true,
+        Kind::Iso(_) => true,
+        Kind::IsoMillis(_) => true,
+        Kind::Ha(_) => true,
+        Kind::Date(_) => true,
+        Kind::Clock(_) => true,
     }
 }

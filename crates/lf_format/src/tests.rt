@@ -2,9 +2,11 @@ ghost use Rattle.std.specs.Prelude.{◌≤◌, length};
 ghost use Rattle.std.specs.Option.{ForSome};
 
 use crate::{Absent, Coding, Kind, Slot, ValueKind};
-use lf_core::{Bytes, Class, OutOfMemory, Str, Value};
+use lf_core::{Bytes, Class, Domain, Moment, OutOfMemory, Str, Value};
 use lf_domain::{DashZero, Fixed3, NumRange, Padded, QueryText, Radix, TextSet, WordList, Words};
+use lf_time::{ClfTime, HaTime, IsoMillisZ, IsoOffset, W3cClock, W3cDate};
 use std::alloc::Global;
+use std::process::Abort;
 use std::test::Fail;
 
 fn slot_of(alloc: Global, kind: Kind, absent: Absent) -> Result<Slot, OutOfMemory> {
@@ -169,6 +171,85 @@ fn copies_are_equal(rt: HostRuntime) -> Result<(), Fail> {
     assert_eq!(rt; again.value_kind(), ValueKind::Number);
     assert_eq!(rt; copy.kind.value_kind(), ValueKind::Text);
     Ok(())
+}
+
+/// Whether the domain prints the number so.
+fn prints(alloc: Global, kind: &Kind, number: i64, wanted: &[u8]) -> Result<bool, OutOfMemory> {
+    let value = Value::Num(number);
+    if !kind.check(&value) {
+        return Ok(false);
+    }
+    let mut plain = Bytes::new(alloc);
+    kind.write_plain(&value, &mut plain)?;
+    Ok(plain.as_slice() == wanted)
+}
+
+#[test]
+fn kinds_of_numbers_that_fronts_make(rt: HostRuntime) -> Result<(), Fail> {
+    let seconds = Kind::fixed3(0, i64::MAX);
+    assert!(rt;
+        prints(rt.alloc(), &seconds, 5, b"0.005")
+            .ok()
+            .ok_or("memory")?
+    );
+    let port = Kind::padded(Radix::Sixteen, 4, 0, 65535);
+    assert!(rt;
+        prints(rt.alloc(), &port, 255, b"00FF")
+            .ok()
+            .ok_or("memory")?
+    );
+    let status = Kind::numbers(-1, 999);
+    assert!(rt; prints(rt.alloc(), &status, -1, b"-1").ok().ok_or("memory")?);
+    assert!(rt; !status.check(&Value::Num(-2)) && !status.check(&Value::Num(1000)));
+    let bytes = Kind::dashed(0, 9);
+    assert!(rt; prints(rt.alloc(), &bytes, 0, b"-").ok().ok_or("memory")?);
+    Ok(())
+}
+
+#[test]
+fn texts_with_an_upper_bound(rt: HostRuntime) -> Result<(), Fail> {
+    let pair = Kind::bounded_texts(Class::VISIBLE, 2, 3);
+    let slot = slot_of(rt.alloc(), pair, Absent::No).ok().ok_or("memory")?;
+    for (text, wanted) in [("a", false), ("ab", true), ("abc", true), ("abcd", false)] {
+        let held = holds_text(rt.alloc(), &slot, text.as_bytes())
+            .ok()
+            .ok_or("memory")?;
+        assert_eq!(rt; held, wanted, "at {text}");
+    }
+    Ok(())
+}
+
+/// A slot of times under each absence: it holds some time, and of these three only those of its sort.
+fn holds_times(rt: &impl Abort, alloc: Global, kind: &Kind, sort: ValueKind) -> Result<(), Fail> {
+    let moment = Value::Moment(Moment {
+        seconds: 971_186_136,
+        millis: 0,
+        offset: 0,
+    });
+    assert!(rt; kind.value_kind() == sort);
+    for absent in [Absent::No, Absent::Dash, Absent::DashTwo, Absent::Blank] {
+        let copy = kind.copy().ok().ok_or("memory")?;
+        let mut slot = slot_of(alloc, copy, absent).ok().ok_or("memory")?;
+        slot.present = true;
+        assert!(rt; slot.holds_any().ok().ok_or("memory")?);
+        assert!(rt; slot.holds(&moment) == (sort == ValueKind::Moment));
+        assert!(rt; slot.holds(&Value::Day(11240)) == (sort == ValueKind::Day));
+        assert!(rt; slot.holds(&Value::Clock(50_136)) == (sort == ValueKind::Clock));
+        assert!(rt; !slot.holds(&Value::Missing) && !slot.holds(&Value::Num(0)));
+    }
+    Ok(())
+}
+
+#[test]
+fn slots_of_times(rt: HostRuntime) -> Result<(), Fail> {
+    let alloc = rt.alloc();
+    let clf = Kind::Clf(ClfTime { bracketed: true });
+    holds_times(&rt, alloc, &clf, ValueKind::Moment)?;
+    holds_times(&rt, alloc, &Kind::Iso(IsoOffset), ValueKind::Moment)?;
+    holds_times(&rt, alloc, &Kind::IsoMillis(IsoMillisZ), ValueKind::Moment)?;
+    holds_times(&rt, alloc, &Kind::Ha(HaTime), ValueKind::Moment)?;
+    holds_times(&rt, alloc, &Kind::Date(W3cDate), ValueKind::Day)?;
+    holds_times(&rt, alloc, &Kind::Clock(W3cClock), ValueKind::Clock)
 }
 
 fn shared<T: Send + Sync>(_value: &T) {}

@@ -1,7 +1,10 @@
 pub mod Fronts
 pub mod StringLaws
 pub mod ReadingLaws
+pub mod Standing
 pub mod OneReading
+pub mod Sorts
+pub mod TimeTexts
 pub mod Printed
 pub mod RoundTrip
 pub mod TestFormats

@@ -12,10 +12,11 @@ use Rattle.lf_format.specs.Slots.{Holds}
 use Rattle.lf_format.proofs.Deciding.{holds_decided}
 use Rattle.lf_json.specs.declared.bad_record.BadRecord.{BadRecord}
 use Rattle.lf_json.specs.declared.bad_record.BadRecord.TheVariants.{NotJson, WrongCount, WrongValue, OutOfMemory}
-use Rattle.lf_json.specs.Reading.{array_of, value_of, StandsFor, StandsForNone, StandForAll, IsFirstWrong, ReadsArray, ReadsJson}
+use Rattle.lf_json.proofs.Standing.{value-same, value_decided}
+use Rattle.lf_json.specs.Reading.{array_of, StandsFor, StandsForNone, StandForAll, IsFirstWrong, ReadsArray, ReadsJson}
 
 same_value : (slot : Slot) (json : Data) (v w : Value) → StandsFor slot json v → StandsFor slot json w → v ≡ w
-same_value slot json v w a b = let e : Some v ≡ Some w = sym a.is ∙ b.is in cc
+same_value slot json v w a b = value-same (value_kind slot.kind) json v w a.is b.is
 
 stand-length : (slots : List Slot) (jsons : List Data) (rec : List Value) → StandForAll slots jsons rec → length jsons ≡ length slots
 stand-length [] [] rec h = refl
@@ -84,18 +85,20 @@ one_reading pieces line one other h k = reading-same (array_of line) (slots_in p
 
 -- ---- some reading
 
-value_decided : (slot : Slot) (json : Data) (found : Option Value) → value_of (value_kind slot.kind) json ≡ found → ((v : Value) × StandsFor slot json v) ⊎ StandsForNone slot json
-value_decided slot json None e = inr (λ v s. let none : None ≡ Some v = sym e ∙ s.is in absurd (cc))
-value_decided slot json (Some v) e = elim (holds_decided slot v) [
-  | inl held ↦ inl (v, record { is = e; held = held })
-  | inr unheld ↦ inr (λ w s. let same : Some w ≡ Some v = sym s.is ∙ e in let is : w ≡ v = cc in unheld (subst (λ x. Holds slot x) is s.held))
+slot_decided : (slot : Slot) (json : Data) → ((v : Value) × StandsFor slot json v) ⊎ StandsForNone slot json
+slot_decided slot json = elim (value_decided (value_kind slot.kind) json) [
+  | inr none ↦ inr (λ v s. none v s.is)
+  | inl some ↦ elim (holds_decided slot some.0) [
+    | inl held ↦ inl (some.0, record { is = some.1; held = held })
+    | inr unheld ↦ inr (λ w s. unheld (subst (λ x. Holds slot x) (value-same (value_kind slot.kind) json w some.0 s.is some.1) s.held))
+  ]
 ]
 
 all_decided : (slots : List Slot) (jsons : List Data) → length jsons ≡ length slots → ((rec : List Value) × StandForAll slots jsons rec) ⊎ ((before : ℕ) × IsFirstWrong before slots jsons)
 all_decided [] [] e = inl ([], tt)
 all_decided [] (json ∷ jsons) e = absurd (omega (arith, e))
 all_decided (slot ∷ slots) [] e = absurd (omega (arith, e))
-all_decided (slot ∷ slots) (json ∷ jsons) e = elim (value_decided slot json (value_of (value_kind slot.kind) json) refl) [
+all_decided (slot ∷ slots) (json ∷ jsons) e = elim (slot_decided slot json) [
   | inr none ↦ inr (0, none)
   | inl some ↦ elim (all_decided slots jsons (omega (arith, e))) [
     | inl rest ↦ inl (some.0 ∷ rest.0, (some.1, rest.1))

@@ -17,7 +17,13 @@ use Rattle.lf_core.specs.declared.values.Value.{Value}
 use Rattle.lf_core.specs.declared.values.Value.TheVariants.{Missing, Num, Text, Moment, Day, Clock}
 use Rattle.lf_number.specs.Numbers.{number_text}
 use Rattle.lf_number.proofs.StdDecimals.{number_text_std}
-use Rattle.lf_json.specs.Text.{json_letter, json_string, hex_object, value_json, HasJson, IsStored, others_text, json_text}
+use Rattle.lf_layout.specs.Calendar.{civil_date}
+use Rattle.lf_layout.specs.Layouts.{layout_text}
+use Rattle.lf_layout.specs.Texts.{clock_text, iso_date_text}
+use Rattle.lf_time.specs.TimeLayouts.{json_layout}
+use Rattle.lf_json.proofs.StringLaws.{json_letter-bare}
+use Rattle.lf_json.proofs.TimeTexts.{AreBare, bare-moment, bare-day, bare-clock}
+use Rattle.lf_json.specs.Text.{bare_string, is_escaped, json_letter, json_string, hex_object, value_json, HasJson, IsStored, others_text, json_text}
 
 -- the JSON value of a value
 abbrev pub text_data : Bool → List ℕ → Data
@@ -28,9 +34,9 @@ abbrev pub data_of : Value → Data
 data_of Missing = null
 data_of (Num n) = number (of_integer n)
 data_of (Text bytes) = text_data (is_utf8 bytes) bytes
-data_of (Moment m) = null
-data_of (Day d) = null
-data_of (Clock s) = null
+data_of (Moment m) = string (layout_text json_layout m)
+data_of (Day d) = string (iso_date_text (civil_date d))
+data_of (Clock s) = string (clock_text s)
 
 -- ---- letters
 
@@ -64,6 +70,17 @@ letters-json (x ∷ xs) = ap₂ (λ a b. a ++ b) (letter-json x) (letters-json x
 
 string-json : (xs : List ℕ) → json_string xs ≡ quoted xs
 string-json xs = ap (λ l. 34 ∷ (l ++ 34 ∷ [])) (letters-json xs)
+
+-- ---- letters of times stand as they are
+
+bare-escape : (xs : List ℕ) → AreBare xs → escape xs ≡ xs
+bare-escape [] h = refl
+bare-escape (x ∷ xs) h =
+    let bare : is_escaped x ≡ false = grind (arith, nat_tests, h.0, h.1) in
+    ap₂ (λ a b. a ++ b) (sym (letter-json x) ∙ json_letter-bare x bare) (bare-escape xs h.2)
+
+bare-json : (xs : List ℕ) → AreBare xs → bare_string xs ≡ quoted xs
+bare-json xs h = ap bare_string (sym (bare-escape xs h))
 
 -- ---- hexadecimal digits stand as they are
 
@@ -111,9 +128,9 @@ pub value-json : (v : Value) → HasJson v → IsStored v → value_json v ≡ c
 value-json Missing j h = refl
 value-json (Num n) j h = number-json n h
 value-json (Text bytes) j h = text-json (is_utf8 bytes) bytes h
-value-json (Moment m) j h = absurd j
-value-json (Day d) j h = absurd j
-value-json (Clock s) j h = absurd j
+value-json (Moment m) j h = bare-json (layout_text json_layout m) (bare-moment m j)
+value-json (Day d) j h = bare-json (iso_date_text (civil_date d)) (bare-day d j)
+value-json (Clock s) j h = bare-json (clock_text s) (bare-clock s j)
 
 -- A list of values with JSON texts.
 abbrev pub AreWritable : List Value → Type 0

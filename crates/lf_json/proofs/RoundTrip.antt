@@ -34,56 +34,27 @@ use Rattle.serde_json.proofs.Texts.{print-outline}
 use Rattle.serde_json.proofs.Views.{get_member-put}
 use Rattle.lf_core.specs.declared.values.Value.{Value}
 use Rattle.lf_core.specs.declared.values.Value.TheVariants.{Missing, Num, Text, Moment, Day, Clock}
-use Rattle.lf_number.specs.Numbers.{HoldsNumber}
-use Rattle.lf_domain.specs.Texts.{IsText}
+use Rattle.lf_layout.specs.Calendar.{civil_date}
+use Rattle.lf_layout.specs.Layouts.{layout_text}
+use Rattle.lf_layout.specs.Texts.{clock_text, iso_date_text}
+use Rattle.lf_time.specs.TimeLayouts.{json_layout}
 use Rattle.lf_format.specs.declared.format.Piece.{Piece}
 use Rattle.lf_format.specs.declared.format.Piece.TheVariants as piece
-use Rattle.lf_format.specs.declared.kind.Kind.{Kind}
-use Rattle.lf_format.specs.declared.kind.Kind.TheVariants as kind
 use Rattle.lf_format.specs.declared.kind.ValueKind.{ValueKind}
 use Rattle.lf_format.specs.declared.kind.ValueKind.TheVariants as sort
 use Rattle.lf_format.specs.declared.slot.Slot.{Slot}
 use Rattle.lf_format.specs.Keeps.{slots_in}
-use Rattle.lf_format.specs.Kinds.{HoldsKind, value_kind}
+use Rattle.lf_format.specs.Kinds.{value_kind}
 use Rattle.lf_format.specs.Lines.{IsRecordOf}
 use Rattle.lf_format.specs.Slots.{Holds}
 use Rattle.lf_json.specs.Text.{HasJson, IsStored, json_text}
-use Rattle.lf_json.specs.Reading.{bytes_of, values_in, json_of, text_of, value_of, StandsFor, StandForAll, ReadsJson}
+use Rattle.lf_json.specs.Reading.{bytes_of, values_in, json_of, text_of, StandsFor, StandsForValue, StandForAll, ReadsJson}
 use Rattle.lf_json.proofs.Printed.{AreWritable, data_of, text_data, record-json}
+use Rattle.lf_json.proofs.Sorts.{IsOfSort, kind_sort, held_json}
+use Rattle.lf_json.proofs.TimeTexts.{AreBare, bare-ascii, bare-moment, bare-day, bare-clock}
 use Rattle.lf_json.proofs.ReadingLaws.{json_of-text, values_in-items_of, reads-array}
 
 -- ---- the JSON value of a value is read as the value
-
--- A value of the sort.
-abbrev IsOfSort : ValueKind → Value → Type 0
-IsOfSort sort.Number (Num n) = Unit {0}
-IsOfSort sort.Text (Text bytes) = Unit {0}
-IsOfSort s v = ⊥
-
-number_sort : (lo hi : ℤ) (v : Value) → HoldsNumber lo hi v → IsOfSort sort.Number v
-number_sort lo hi (Num n) h = tt
-number_sort lo hi Missing h = absurd h
-number_sort lo hi (Text bytes) h = absurd h
-number_sort lo hi (Moment m) h = absurd h
-number_sort lo hi (Day d) h = absurd h
-number_sort lo hi (Clock s) h = absurd h
-
-text_sort : (P : List ℕ → Type 0) (v : Value) → IsText P v → IsOfSort sort.Text v
-text_sort P (Text bytes) h = tt
-text_sort P (Num n) h = absurd h
-text_sort P Missing h = absurd h
-text_sort P (Moment m) h = absurd h
-text_sort P (Day d) h = absurd h
-text_sort P (Clock s) h = absurd h
-
-kind_sort : (k : Kind) (v : Value) → HoldsKind k v → IsOfSort (value_kind k) v
-kind_sort (kind.Num d) v h = number_sort d.lo d.hi v h
-kind_sort (kind.DashZero d) v h = number_sort d.lo d.hi v h
-kind_sort (kind.Fixed3 d) v h = number_sort d.lo d.hi v h
-kind_sort (kind.Padded d) v h = number_sort d.lo d.hi v h
-kind_sort (kind.Words d) v h = text_sort _ v h
-kind_sort (kind.Text d) v h = text_sort _ v h
-kind_sort (kind.Query d) v h = text_sort _ v h
 
 as_i64-of_integer : (n : ℤ) → FitsSigned w64 n → as_i64 (of_integer n) ≡ Some n
 as_i64-of_integer (pos n) h = let t : nat_lt n (2 ^ 63) ≡ true = grind (arith, ints, nat_tests, h) in rw t
@@ -95,22 +66,21 @@ text_of-text_data false bytes h =
     ap (λ o. option_and_then bytes_of (option_and_then as_str o)) (get_member-put (codes "hex") (string (encode_lower bytes)) no_members)
     ∙ ap result_ok (decode_of-encode_lower bytes h)
 
-text_value : (utf8 : Bool) (bytes : List ℕ) → IsBytes bytes → value_of sort.Text (text_data utf8 bytes) ≡ Some (Text bytes)
+text_value : (utf8 : Bool) (bytes : List ℕ) → IsBytes bytes → StandsForValue sort.Text (text_data utf8 bytes) (Text bytes)
 text_value true bytes h = refl
 text_value false bytes h = ap (option_map Text) (text_of-text_data false bytes h)
 
-value_of-data_of : (s : ValueKind) (v : Value) → IsOfSort s v → IsStored v → value_of s (data_of v) ≡ Some v
-value_of-data_of sort.Number (Num n) is h = ap (option_map Num) (as_i64-of_integer n h)
-value_of-data_of sort.Text (Text bytes) is h = text_value (is_utf8 bytes) bytes h
-value_of-data_of s v is h = absurd is
+value_stands : (s : ValueKind) (v : Value) → IsOfSort s v → IsStored v → StandsForValue s (data_of v) v
+value_stands sort.Number (Num n) is h = ap (option_map Num) (as_i64-of_integer n h)
+value_stands sort.Text (Text bytes) is h = text_value (is_utf8 bytes) bytes h
+value_stands sort.Moment (Moment m) is h = ((is, tt, tt), refl)
+value_stands sort.Day (Day d) is h = (is, refl)
+value_stands sort.Clock (Clock s) is h = (is, refl)
+value_stands s v is h = absurd is
 
 stands : (slot : Slot) (v : Value) → Holds slot v → IsStored v → StandsFor slot (data_of v) v
 stands slot Missing held h = record { is = refl; held = held }
-stands slot (Num n) held h = record { is = value_of-data_of (value_kind slot.kind) (Num n) (kind_sort slot.kind (Num n) held.0) h; held = held }
-stands slot (Text bytes) held h = record { is = value_of-data_of (value_kind slot.kind) (Text bytes) (kind_sort slot.kind (Text bytes) held.0) h; held = held }
-stands slot (Moment m) held h = record { is = value_of-data_of (value_kind slot.kind) (Moment m) (kind_sort slot.kind (Moment m) held.0) h; held = held }
-stands slot (Day d) held h = record { is = value_of-data_of (value_kind slot.kind) (Day d) (kind_sort slot.kind (Day d) held.0) h; held = held }
-stands slot (Clock s) held h = record { is = value_of-data_of (value_kind slot.kind) (Clock s) (kind_sort slot.kind (Clock s) held.0) h; held = held }
+stands slot v held h = record { is = value_stands (value_kind slot.kind) v (kind_sort slot.kind v held.0) h; held = held }
 
 stand_for_all : (pieces : List Piece) (rec : List Value) → All IsStored rec → IsRecordOf pieces rec → StandForAll (slots_in pieces) (map data_of rec) rec
 stand_for_all [] [] h is = tt
@@ -121,19 +91,6 @@ stand_for_all (piece.Slot slot ∷ pieces) (v ∷ rec) h is =
     (stands slot v is.0 (All-head IsStored v rec h), stand_for_all pieces rec (All-tail IsStored v rec h) is.1)
 
 -- ---- a record's values have JSON texts
-
-sort_json : (s : ValueKind) (v : Value) → IsOfSort s v → HasJson v
-sort_json sort.Number (Num n) is = tt
-sort_json sort.Text (Text bytes) is = tt
-sort_json s v is = absurd is
-
-held_json : (slot : Slot) (v : Value) → Holds slot v → HasJson v
-held_json slot Missing held = tt
-held_json slot (Num n) held = tt
-held_json slot (Text bytes) held = tt
-held_json slot (Moment m) held = sort_json (value_kind slot.kind) (Moment m) (kind_sort slot.kind (Moment m) held.0)
-held_json slot (Day d) held = sort_json (value_kind slot.kind) (Day d) (kind_sort slot.kind (Day d) held.0)
-held_json slot (Clock s) held = sort_json (value_kind slot.kind) (Clock s) (kind_sort slot.kind (Clock s) held.0)
 
 writable : (pieces : List Piece) (rec : List Value) → All IsStored rec → IsRecordOf pieces rec → AreWritable rec
 writable [] [] h is = tt
@@ -171,17 +128,23 @@ object-utf8 bytes =
     IsUtf8-append (codes "{\"hex\":") (quoted (encode_lower bytes) ++ 125 ∷ []) (IsUtf8-are_ascii _ refl)
     (IsUtf8-append (quoted (encode_lower bytes)) (125 ∷ []) (IsUtf8-quoted (encode_lower bytes) digits) (IsUtf8-are_ascii _ refl))
 
+string_good : (text : List ℕ) → IsUtf8 text → Good (string text)
+string_good text u = (tt, omega arith, refl, IsUtf8-quoted text u)
+
+bare_good : (text : List ℕ) → AreBare text → Good (string text)
+bare_good text h = string_good text (IsUtf8-from_ascii text (bare-ascii text h))
+
 text_good : (utf8 : Bool) (bytes : List ℕ) → is_utf8 bytes ≡ utf8 → Good (text_data utf8 bytes)
-text_good true bytes e = (tt, omega arith, refl, IsUtf8-quoted bytes (IsUtf8-from_is_utf8 bytes e))
+text_good true bytes e = string_good bytes (IsUtf8-from_is_utf8 bytes e)
 text_good false bytes e = ((tt, tt), omega arith, refl, object-utf8 bytes)
 
-value_good : (v : Value) → IsStored v → Good (data_of v)
-value_good Missing h = (tt, omega arith, refl, IsUtf8-are_ascii _ refl)
-value_good (Num n) h = number_good n h
-value_good (Text bytes) h = text_good (is_utf8 bytes) bytes refl
-value_good (Moment m) h = (tt, omega arith, refl, IsUtf8-are_ascii _ refl)
-value_good (Day d) h = (tt, omega arith, refl, IsUtf8-are_ascii _ refl)
-value_good (Clock s) h = (tt, omega arith, refl, IsUtf8-are_ascii _ refl)
+value_good : (v : Value) → HasJson v → IsStored v → Good (data_of v)
+value_good Missing j h = (tt, omega arith, refl, IsUtf8-are_ascii _ refl)
+value_good (Num n) j h = number_good n h
+value_good (Text bytes) j h = text_good (is_utf8 bytes) bytes refl
+value_good (Moment m) j h = bare_good (layout_text json_layout m) (bare-moment m j)
+value_good (Day d) j h = bare_good (iso_date_text (civil_date d)) (bare-day d j)
+value_good (Clock s) j h = bare_good (clock_text s) (bare-clock s j)
 
 abbrev GoodItems : Items → Type 0
 GoodItems ds = tree.ItemsHaveNumbers (items_outline ds) × (tree.items_depth (items_outline ds) ≤ 1) × (of_items (items_outline ds) ≡ Some ds) × IsUtf8 (items_text true ds)
@@ -189,7 +152,7 @@ GoodItems ds = tree.ItemsHaveNumbers (items_outline ds) × (tree.items_depth (it
 items_good : (rec : List Value) → AreWritable rec → GoodItems (items_of (map data_of rec))
 items_good [] h = (tt, omega arith, refl, IsUtf8-are_ascii _ refl)
 items_good (v ∷ rec) h =
-    let first = value_good v h.1 in
+    let first = value_good v h.0 h.1 in
     let rest = items_good rec h.2 in (
       (first.0, rest.0),
       omega (arith, first.1, rest.1),
@@ -200,7 +163,7 @@ items_good (v ∷ rec) h =
 
 first_utf8 : (rec : List Value) → AreWritable rec → IsUtf8 (items_text false (items_of (map data_of rec)))
 first_utf8 [] h = IsUtf8-are_ascii _ refl
-first_utf8 (v ∷ rec) h = IsUtf8-append (compact_text (data_of v)) (items_text true (items_of (map data_of rec))) (value_good v h.1).3 (items_good rec h.2).3
+first_utf8 (v ∷ rec) h = IsUtf8-append (compact_text (data_of v)) (items_text true (items_of (map data_of rec))) (value_good v h.0 h.1).3 (items_good rec h.2).3
 
 abbrev whole : Option (json.Json × List Token) → Option Data
 whole found = option_and_then of_json (option_and_then (λ p. json.if_last p.0 p.1) found)

@@ -11,7 +11,7 @@ use Rattle.hex.specs.Hex.{encode_with, encode_lower}
 use Rattle.lf_core.specs.declared.values.Value.{Value}
 use Rattle.lf_json.specs.Text.{json_letter, is_escaped, others_text, value_json}
 
-json_letter-bare : (b : ℕ) → is_escaped b ≡ false → json_letter b ≡ b ∷ []
+pub json_letter-bare : (b : ℕ) → is_escaped b ≡ false → json_letter b ≡ b ∷ []
 unfolding json_letter
 json_letter-bare b h = grind (arith, nat_tests, h)
 

@@ -1,13 +1,16 @@
 -- What reading a line of JSON answers.
-use Rattle.std.specs.Prelude.{◌≡◌, ◌≢◌, ℕ, zero, suc, ◌+◌, List, [], ◌∷◌, ◌++◌, length, cond, codes, Option, Some, None, option_map, option_and_then, MatchOption, Result, Ok, Err}
+use Rattle.std.specs.Prelude.{◌≡◌, ◌≢◌, ℕ, ℤ, zero, suc, ◌+◌, List, [], ◌∷◌, ◌++◌, length, cond, codes, Option, Some, None, option_map, option_and_then, MatchOption, Result, Ok, Err}
 use Rattle.std.specs.Result.{result_ok}
 use Rattle.std.specs.Str.{is_utf8}
 use Rattle.hex.specs.Hex.{decode_of}
 use Rattle.serde_json.specs.Data.{Data, null, string, object, Items, no_items, item, Members, no_members, member}
 use Rattle.serde_json.specs.Find.{as_array, as_i64, as_number, as_str, get_member}
 use Rattle.serde_json.specs.Read.{read}
+use Rattle.lf_core.specs.Domain.{IsPlainOf}
 use Rattle.lf_core.specs.declared.values.Value.{Value}
 use Rattle.lf_core.specs.declared.values.Value.TheVariants.{Missing, Num, Text}
+use Rattle.lf_layout.specs.Layouts.{HoldsMoment, HoldsDay, HoldsClock, moment_text, day_text, time_text}
+use Rattle.lf_time.specs.TimeLayouts.{json_layout}
 use Rattle.lf_format.specs.declared.format.Piece.{Piece}
 use Rattle.lf_format.specs.declared.kind.ValueKind.{ValueKind}
 use Rattle.lf_format.specs.declared.kind.ValueKind.TheVariants as kind
@@ -51,20 +54,31 @@ text_of (string text) = Some text
 text_of (object found) = hex_text found
 text_of json = None
 
--- the value that is there, of its kind
-abbrev pub present_of : ValueKind → Data → Option Value
-present_of kind.Number json = option_map Num (option_and_then as_i64 (as_number json))
-present_of kind.Text json = option_map Text (text_of json)
-present_of sort json = None
+-- the number that a JSON value stands for
+abbrev pub number_of : Data → Option ℤ
+number_of json = option_and_then as_i64 (as_number json)
 
--- the value of a kind that a JSON value stands for
-abbrev pub value_of : ValueKind → Data → Option Value
-value_of sort null = Some Missing
-value_of sort json = present_of sort json
+-- The JSON value is a string, and the string is the text of the held value.
+abbrev pub IsStringOf : (Value → Type 0) → (Value → List ℕ) → Data → Value → Type 0
+IsStringOf holds text (string letters) v = IsPlainOf holds text letters v
+IsStringOf holds text json v = ⊥
+
+-- The JSON value stands for the value of the kind, where that isn't `Missing`.
+abbrev pub StandsForPresent : ValueKind → Data → Value → Type 0
+StandsForPresent kind.Number json v = option_map Num (number_of json) ≡ Some v
+StandsForPresent kind.Text json v = option_map Text (text_of json) ≡ Some v
+StandsForPresent kind.Moment json v = IsStringOf (HoldsMoment json_layout) (moment_text json_layout) json v
+StandsForPresent kind.Day json v = IsStringOf HoldsDay day_text json v
+StandsForPresent kind.Clock json v = IsStringOf HoldsClock time_text json v
+
+-- The JSON value stands for the value of the kind; `null` stands for `Missing`.
+abbrev pub StandsForValue : ValueKind → Data → Value → Type 0
+StandsForValue sort null v = v ≡ Missing
+StandsForValue sort json v = StandsForPresent sort json v
 
 -- The JSON value stands for the value, and the slot holds it.
 pub record StandsFor (slot : Slot) (json : Data) (v : Value) : Type 0 where
-  pub is : value_of (value_kind slot.kind) json ≡ Some v
+  pub is : StandsForValue (value_kind slot.kind) json v
   pub held : Holds slot v
 
 -- The JSON value stands for no value that the slot holds.
@@ -96,6 +110,14 @@ abbrev pub ReadsJson : List Piece → List ℕ → Result (List Value) BadRecord
 ReadsJson pieces line answer = MatchOption (array_of line) (answer ≡ Err NotJson) (λ jsons. ReadsArray (slots_in pieces) jsons answer)
 
 -- ---- for private clauses
+
+-- It is true of no value.
+abbrev pub HasNone : (Value → Type 0) → Type 0
+HasNone P = (v : Value) → P v → ⊥
+
+-- What was found is a value of which it is true, and nothing only where it is true of none.
+abbrev pub IsFound : (Value → Type 0) → Option Value → Type 0
+IsFound P found = MatchOption found (HasNone P) P
 
 -- The values that were added stand for the slots'.
 abbrev pub AddsValues : List Value → List Value → List Slot → List Data → Type 0

@@ -1,12 +1,14 @@
 //! The values that JSON values stand for.
-ghost use Rattle.std.specs.Prelude.{◌≡◌, IfOk, MatchOption, option_and_then, option_map};
+ghost use Rattle.std.specs.Prelude.{◌≡◌, IfOk, option_and_then, option_map};
 ghost use Rattle.serde_json.specs.Find.{as_object};
 ghost use Rattle.serde_json.specs.View.{view};
-ghost use Rattle.lf_json.specs.Reading.{bytes_of, hex_digits as digits_of, text_of, value_of, StandsFor, StandsForNone};
+ghost use Rattle.lf_json.specs.Reading.{bytes_of, hex_digits as digits_of, text_of, IsFound, StandsFor, StandsForPresent, StandsForValue};
 
+use crate::times::read_time;
 use hex::FromHexError;
 use lf_core::{Bytes, OutOfMemory, Value};
 use lf_format::{Slot, ValueKind};
+use lf_time::{JsonTime, W3cClock, W3cDate};
 use serde_json::Value as Json;
 use std::alloc::Global;
 
@@ -54,18 +56,27 @@ fn read_text(alloc: Global, json: &Json) -> Result<Option<Bytes>, OutOfMemory>
     decode(alloc, digits)
 }
 
+/// The value of the kind that the JSON value stands for, where that isn't `Missing`.
+fn read_present(alloc: Global, kind: ValueKind, json: &Json) -> Result<Option<Value>, OutOfMemory>
+    ensures { IfOk result (IsFound (StandsForPresent kind (view json.now))) }
+{
+    match kind {
+        ValueKind::Number => return Ok(json.as_i64().map(Value::Num)),
+        ValueKind::Text => return Ok(read_text(alloc, json)?.map(Value::Text)),
+        ValueKind::Moment => return read_time(alloc, &JsonTime, json),
+        ValueKind::Day => return read_time(alloc, &W3cDate, json),
+        ValueKind::Clock => return read_time(alloc, &W3cClock, json),
+    }
+}
+
 /// The value of the kind that the JSON value stands for.
 fn read_value(alloc: Global, kind: ValueKind, json: &Json) -> Result<Option<Value>, OutOfMemory>
-    ensures { IfOk result (λ found. found ≡ value_of kind (view json.now)) }
+    ensures { IfOk result (IsFound (StandsForValue kind (view json.now))) }
 {
     if json.is_null() {
         return Ok(Some(Value::Missing));
     }
-    match kind {
-        ValueKind::Number => Ok(json.as_i64().map(Value::Num)),
-        ValueKind::Text => Ok(read_text(alloc, json)?.map(Value::Text)),
-        ValueKind::Moment | ValueKind::Day | ValueKind::Clock => Ok(None),
-    }
+    read_present(alloc, kind, json)
 }
 
 /// The value of the slot that the JSON value stands for.
@@ -74,8 +85,7 @@ pub(crate) fn read_item(
     slot: &Slot,
     json: &Json,
 ) -> Result<Option<Value>, OutOfMemory>
-    ensures { IfOk result (λ found. MatchOption found
-        (StandsForNone slot.now (view json.now)) (StandsFor slot.now (view json.now))) }
+    ensures { IfOk result (IsFound (StandsFor slot.now (view json.now))) }
 {
     let Some(value) = read_value(alloc, slot.kind.value_kind(), json)? else {
         return Ok(None);

@@ -6,6 +6,7 @@ mod items;
 pub mod laws;
 mod letters;
 mod reading;
+mod times;
 mod writing;
 
 pub use bad_record::BadRecord;

@@ -6,8 +6,10 @@ ghost use Rattle.lf_number.specs.Numbers.{number_text};
 ghost use Rattle.lf_json.specs.Text.{HasJson, hex_object, json_string, json_text, others_text, text_json, value_json};
 
 use crate::letters::{write_digits, write_letters};
+use crate::times::write_time;
 use itoa::Buffer;
 use lf_core::{Bytes, OutOfMemory, Record, Value};
+use lf_time::{JsonTime, W3cClock, W3cDate};
 use std::str;
 
 /// Appends a text of UTF-8 as a string.
@@ -76,7 +78,9 @@ fn write_value(value: &Value, into: &mut Bytes) -> Result<(), OutOfMemory>
         Value::Missing => into.extend(b"null"),
         Value::Num(number) => write_number(*number, into),
         Value::Text(text) => write_text(text.as_slice(), into),
-        Value::Moment(_) | Value::Day(_) | Value::Clock(_) => unreachable!(),
+        Value::Moment(_) => write_time(&JsonTime, value, into),
+        Value::Day(_) => write_time(&W3cDate, value, into),
+        Value::Clock(_) => write_time(&W3cClock, value, into),
     }
 }
 

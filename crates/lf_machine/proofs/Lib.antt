@@ -4,6 +4,7 @@ pub mod SizeLaws
 pub mod RunLaws
 pub mod Replicas
 pub mod EndingLaws
+pub mod LoneLaws
 pub mod SpotLaws
 pub mod ToldLaws
 pub mod RecordTold

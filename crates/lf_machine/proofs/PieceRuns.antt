@@ -110,6 +110,12 @@ kind-never (kinds.Padded d) h = h
 kind-never (kinds.Words d) h = h
 kind-never (kinds.Text d) h = h
 kind-never (kinds.Query d) h = h
+kind-never (kinds.Clf d) h = h
+kind-never (kinds.Iso d) h = h
+kind-never (kinds.IsoMillis d) h = h
+kind-never (kinds.Ha d) h = h
+kind-never (kinds.Date d) h = h
+kind-never (kinds.Clock d) h = h
 
 module _ (kind : Kind) (code : Coding) (absent : Absent) (present : Bool) where
   abbrev PlainSaid : Said → Type 0

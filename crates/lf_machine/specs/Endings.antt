@@ -1,7 +1,8 @@
 -- The letters of a code by the last bytes of their words.
-use Rattle.std.specs.Prelude.{◌≡◌, ℕ, zero, suc, ◌<◌, List, [], ◌∷◌, ◌++◌, length, get_or, Bool, cond, ◌==◌}
+use Rattle.std.specs.Prelude.{◌≡◌, ℕ, zero, suc, ◌<◌, List, [], ◌∷◌, ◌++◌, length, get_or, Option, map, Bool, cond, ◌==◌}
 use Rattle.lf_format.specs.Codings.{coding_takes, coding_word}
 use Rattle.lf_format.specs.declared.kind.Coding.{Coding}
+use Rattle.lf_machine.specs.Lone.{lone_of, HasFirsts}
 use Rattle.lf_machine.specs.Pieces.{table_of}
 
 -- the last byte of a word, and 0 where there is none
@@ -22,8 +23,10 @@ pub record HasEndings (takes : ℕ → Bool) (word : ℕ → List ℕ) (lists : 
   pub each : (byte : ℕ) → byte < 256 → get_or lists byte [] ≡ letters_ending takes word byte bound
 
 -- What the table of a code keeps.
-pub record IsTableOf (code : Coding) (prefixes endings : List (List ℕ)) : Type 0 where
+pub record IsTableOf (code : Coding) (prefixes endings lone : List (List ℕ)) (firsts : List (Option ℕ)) : Type 0 where
   pub same : prefixes ≡ table_of code
   pub least : 0 < length (table_of code)
   pub most : length (table_of code) < 256
   pub ended : HasEndings (coding_takes code) (coding_word code) endings 256
+  pub alone : lone ≡ map (lone_of (coding_takes code) (coding_word code)) endings
+  pub first : HasFirsts (table_of code) firsts 256

@@ -3,6 +3,7 @@ pub mod Decoding
 pub mod RecordOrder
 pub mod Places
 pub mod Parted
+pub mod Lone
 pub mod Endings
 pub mod Spots
 pub mod OnBytes

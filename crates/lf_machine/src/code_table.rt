@@ -2,10 +2,12 @@ ghost use Rattle.std.specs.Prelude.{◌≡◌, ◌<◌, ◌^◌, ◌++◌, [], �
 ghost use Rattle.std.specs.Option.{ForSome};
 ghost use Rattle.lf_format.specs.Codings.{coding_takes, coding_word};
 ghost use Rattle.lf_machine.specs.Endings.{letters_ending};
+ghost use Rattle.lf_machine.specs.Lone.{lone_of};
 ghost use Rattle.lf_machine.specs.Pieces.{table_of};
 ghost use Rattle.lf_machine.specs.Table.{same_list, index_of};
 
 use crate::endings::code_endings;
+use crate::lone::{first_numbers, lone_letters};
 use crate::prefixes::code_prefixes;
 use lf_core::{Bytes, OutOfMemory};
 use lf_format::Coding;
@@ -13,12 +15,15 @@ use std::alloc::Global;
 use std::marker::Model;
 
 /// How the words of a code are read byte by byte: the proper prefixes of the words, and for each byte
-/// the letters whose words it ends.
+/// the letters whose words it ends. Where nothing was read of a word, which is most often so, the letters whose
+/// word is the byte and the prefix that it is stand ready.
 #[derive(Drop)]
 pub struct CodeTable {
     code: Coding,
     prefixes: Vec<Bytes>,
     endings: Vec<Bytes>,
+    lone: Vec<Bytes>,
+    firsts: Vec<Option<u32>>,
 }
 
 impl Model for CodeTable {
@@ -29,7 +34,7 @@ impl Model for CodeTable {
 
     ghost view = { λ t. t.code };
 
-    ghost invariant = { λ t. IsTableOf t.code t.prefixes.items t.endings.items };
+    ghost invariant = { λ t. IsTableOf t.code t.prefixes.items t.endings.items t.lone.items t.firsts.items };
 }
 
 impl CodeTable {
@@ -38,10 +43,14 @@ impl CodeTable {
     {
         let prefixes = code_prefixes(alloc, &code)?;
         let endings = code_endings(alloc, &code)?;
+        let lone = lone_letters(alloc, &code, endings.as_slice())?;
+        let firsts = first_numbers(alloc, prefixes.as_slice())?;
         Ok(CodeTable {
             code,
             prefixes,
             endings,
+            lone,
+            firsts,
         })
     }
 
@@ -73,7 +82,17 @@ impl CodeTable {
         ensures exact { result ≡ index_of (table_of self.now) (read.now ++ byte ∷ []) }
         ensures within { ForSome result (λ at. at < length (table_of self.now)) }
     {
+        if read.is_empty() {
+            return self.firsts[byte as usize];
+        }
         find(self.prefixes.as_slice(), read, byte)
+    }
+
+    /// The letters whose word is the byte.
+    pub fn lone(&self, byte: u8) -> &[u8]
+        ensures { result.now ≡ lone_of (coding_takes self.now) (coding_word self.now) (letters_ending (coding_takes self.now) (coding_word self.now) byte 256) }
+    {
+        self.lone[byte as usize].as_slice()
     }
 
     /// The letters whose words the byte ends.
@@ -85,7 +104,7 @@ impl CodeTable {
 }
 
 /// The place in the list of what was read and then the byte.
-fn find(texts: &[Bytes], read: &[u8], byte: u8) -> Option<u32>
+pub fn find(texts: &[Bytes], read: &[u8], byte: u8) -> Option<u32>
     requires { length texts.now < 2 ^ 8 }
     ensures exact { result ≡ index_of texts.now (read.now ++ byte ∷ []) }
     ensures within { ForSome result (λ at. at < length texts.now) }

@@ -4,6 +4,7 @@
 mod code_table;
 mod decode;
 mod endings;
+mod lone;
 mod machine;
 mod piece_part;
 mod place;

@@ -226,6 +226,10 @@ impl SlotPart {
         ensures ok { OnOk result (into.new.items ≡ into.old.items ++ map (aimed aim) (slot_steps self.now state read.now byte)) }
     {
         self.push_inner(read, byte, state, aim, into)?;
+        if read.is_empty() {
+            self.push_letters(self.table.lone(byte), read, byte, state, aim, into)?;
+            return Ok(());
+        }
         self.push_letters(self.table.ending(byte), read, byte, state, aim, into)?;
         Ok(())
     }

@@ -1,2 +1,5 @@
-pub mod Endings
 pub mod Beginnings
+pub mod Joins
+pub mod Runs
+pub mod Levels
+pub mod Cutting

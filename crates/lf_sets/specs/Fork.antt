@@ -1,5 +1,5 @@
--- A small machine for tests: the moves fork on the first byte, and come together on the second.
-use Rattle.std.specs.Prelude.{ℕ, List, [], ◌∷◌, Bool, cond, eqb, ◌||◌}
+-- A small machine for tests: the moves fork on `a`, come together on `b`, and stay on `c`.
+use Rattle.std.specs.Prelude.{ℕ, ◌+◌, List, [], ◌∷◌, Bool, cond, eqb, ◌||◌}
 use Rattle.lf_core.specs.declared.marked.Move.{Move}
 use Rattle.lf_core.specs.Marked.{Machine}
 
@@ -12,10 +12,15 @@ forked_moves forked =
 abbrev pub last_move : List Move
 last_move = record { mark = 0; to = 3 } ∷ []
 
+-- the move that stays at the point
+abbrev pub stay_move : ℕ → List Move
+stay_move point = record { mark = 4 + point; to = point } ∷ []
+
 abbrev pub fork_moves : Bool → ℕ → ℕ → List Move
 fork_moves forked point byte =
     cond (eqb byte 97) (cond (eqb point 0) (forked_moves forked) [])
-    (cond (eqb byte 98) (cond (eqb point 0) [] (cond (eqb point 3) [] last_move)) [])
+    (cond (eqb byte 98) (cond (eqb point 0) [] (cond (eqb point 3) [] last_move))
+    (cond (eqb byte 99) (stay_move point) []))
 
 abbrev pub fork : Bool → Machine
 fork forked = record {

@@ -1,10 +1,10 @@
 -- The small machine is lawful.
-use Rattle.std.proofs.Common.{◌≡◌, ℕ, zero, suc, ◌<◌, ◌≤◌, List, [], ◌∷◌, Bool, true, false, cond, eqb, refl, arith, ap}
+use Rattle.std.proofs.Common.{◌≡◌, ℕ, zero, suc, ◌+◌, ◌<◌, ◌≤◌, List, [], ◌∷◌, Bool, true, false, cond, eqb, refl, arith, ap}
 use Rattle.std.specs.Prelude.{All, Contains}
 use Rattle.std.proofs.lemmas.List.Elements.{All-nil, All-cons}
 use Rattle.lf_core.specs.declared.marked.Move.{Move}
 use Rattle.lf_core.specs.Marked.{IsMachine, NoneTwice}
-use Rattle.lf_sets.specs.Fork.{fork, fork_moves, forked_moves, last_move}
+use Rattle.lf_sets.specs.Fork.{fork, fork_moves, forked_moves, last_move, stay_move}
 
 -- a list without a move twice, to points below 4
 pub record IsGood (moves : List Move) : Type 0 where
@@ -49,22 +49,28 @@ good_fork forked = good_either forked (first_fork ∷ second_fork ∷ []) (first
 good_last : IsGood last_move
 good_last = good_one (record { mark = 0; to = 3 }) (omega arith)
 
-good_moves : (forked : Bool) (point byte : ℕ) → IsGood (fork_moves forked point byte)
-good_moves forked point byte =
+good_stay : (point : ℕ) → point < 4 → IsGood (stay_move point)
+good_stay point low = good_one (record { mark = 4 + point; to = point }) low
+
+good_moves : (forked : Bool) (point byte : ℕ) → point < 4 → IsGood (fork_moves forked point byte)
+good_moves forked point byte low =
     good_either (eqb byte 97) _ _
     (good_either (eqb point 0) _ _ (good_fork forked) good_none)
-    (good_either (eqb byte 98) _ _ (good_either (eqb point 0) _ _ good_none (good_either (eqb point 3) _ _ good_none good_last)) good_none)
+    (good_either (eqb byte 98) _ _
+    (good_either (eqb point 0) _ _ good_none (good_either (eqb point 3) _ _ good_none good_last))
+    (good_either (eqb byte 99) _ _ (good_stay point low) good_none))
 
 no_byte : (forked : Bool) (point byte : ℕ) → 256 ≤ byte → fork_moves forked point byte ≡ []
 no_byte forked point byte h =
     let first : eqb byte 97 ≡ false = grind arith in
     let second : eqb byte 98 ≡ false = grind arith in
-    rw (first, second) refl
+    let third : eqb byte 99 ≡ false = grind arith in
+    rw (first, second, third) refl
 
 pub fork_lawful : (forked : Bool) → IsMachine (fork forked)
 fork_lawful forked = record {
   begins = omega arith;
-  once = λ point byte h. (good_moves forked point byte).once;
-  stays = λ point byte h. (good_moves forked point byte).stays;
+  once = λ point byte h. (good_moves forked point byte h).once;
+  stays = λ point byte h. (good_moves forked point byte h).stays;
   bytes = λ point byte h k. no_byte forked point byte k;
 }

@@ -1,3 +1,4 @@
-pub mod Sets
+pub mod Reached
+pub mod Forests
 pub mod Fork
 pub mod ForkLaws

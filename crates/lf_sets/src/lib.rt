@@ -1,8 +1,11 @@
 //! Runs of a marked machine, found by sets of points.
 #![tactic(auto)]
 
+mod backward;
+mod blocks;
+mod forest;
+mod forward;
 mod reader;
-mod sets;
 
 pub use reader::SetReader;
 

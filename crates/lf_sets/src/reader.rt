@@ -1,38 +1,41 @@
 //! One whole run on a line.
-ghost use Rattle.std.specs.Prelude.{◌≡◌, ◌<◌, List, Contains, MatchOption, IfOk, drop, true};
+ghost use Rattle.std.specs.Prelude.{◌≡◌, ◌<◌, List, Contains, MatchOption, IfOk};
 ghost use Rattle.lf_core.specs.Marked.{IsMachine, IsWholeRun};
-ghost use Rattle.lf_sets.specs.Sets.{has_point};
 
-use crate::sets::{moves_of, onward, sets_of};
+use crate::backward::{end_place, turned, walk_back};
+use crate::blocks::{BLOCK, back_over, block_at, checkpoints};
+use crate::forward::Search;
 use lf_core::{Marked, OutOfMemory, Run};
 use std::alloc::Global;
 
-/// Finds a whole run by the sets of points from which the rest of the line leads to an end.
+/// Finds a whole run by the sets of points that the line's beginnings lead to.
 pub struct SetReader;
 
 impl SetReader {
     /// A whole run on the line; None exactly where there is none.
+    /// Memory is used for 16 bytes each byte of the line, 16 each point that is reached after each byte of one block of
+    /// 1,024 bytes, and 4 each point that is reached where a block begins. A line of several blocks is gone over twice.
     pub fn run<M: Marked>(alloc: Global, m: &M, line: &[u8]) -> Result<Option<Run>, OutOfMemory>
         ensures { IfOk result (λ found. MatchOption found
             ((run : List _) → IsWholeRun (M.machine m.now) line.now run → ⊥)
             (λ run. IsWholeRun (M.machine m.now) line.now run)) }
     {
-        let sets = sets_of(alloc, m, line)?;
-        let mut point = m.start();
-        let mut run = Run::new(alloc);
-        if !sets[line.len()][point as usize] {
+        let last = line.len().saturating_sub(1) / BLOCK;
+        let mut search = Search::new(alloc, m.points())?;
+        let sets = checkpoints(alloc, m, line, last, &mut search)?;
+        let block = block_at(line, last * BLOCK);
+        let level = search.trace(m, &sets[last], block)?;
+        let nodes = search.forest.nodes.as_slice();
+        let Some(end) = end_place(m, nodes, level) else {
             return Ok(None);
+        };
+        let mut back = Vec::new(alloc);
+        let mut point = walk_back(m, &sets[last], block, nodes, end, &mut back)?;
+        for k in 0..last {
+            let at = last - 1 - k;
+            let block = block_at(line, at * BLOCK);
+            point = back_over(m, &sets[at], block, point, &mut search, &mut back)?;
         }
-        for i in 0..line.len() {
-            let options = moves_of(alloc, m, point, line[i])?;
-            match onward(&options, &sets[line.len() - 1 - i]) {
-                Some(step) => {
-                    run.push(step)?;
-                    point = step.to;
-                }
-                None => return Ok(None),
-            }
-        }
-        Ok(Some(run))
+        Ok(Some(turned(alloc, &back)?))
     }
 }

@@ -1,14 +1,34 @@
-use Rattle.std.proofs.Common.{◌∙◌}
-use Rattle.lf_app.proofs.RunLaws.{runs_shown, runs_refused}
+use Rattle.std.proofs.Common.{◌++◌, refl}
+use Rattle.std.specs.Prelude.{codes}
+use Rattle.std.specs.Fmt.{decimal}
+use Rattle.lf_app.specs.declared.commands.Command.TheVariants.{Readable, Witness, Show, Refuse}
+use Rattle.lf_app.specs.Outcome.{told_out, told_err, shown, witness_text, refusal_text, refusal_status}
+use Rattle.lf_app.proofs.RunLaws.{runs_text_out, runs_text_err, told_readable, told_witness, told_shown, told_refused}
 use Rattle.lf_app.proofs.running.answer.Goals as goal
 
-pub returns-in-Ok-clause-runs : goal.returns-in-Ok-clause-runs
-returns-in-Ok-clause-runs g c =
-    let runs = runs_shown c.in-Show.format c.tell.result.0 (g.S.Source.left c.args.input.now) (g.E.Sink.got c.args.err.now) c.as_slice.result.now _ (c.as_slice.ensures ∙ c.in-Ok.ensures) c.tell.ensures.says c.tell.ensures.known in
+pub returns-in-Readable-clause-runs : goal.returns-in-Readable-clause-runs
+returns-in-Readable-clause-runs g c =
+    let slots = c.in-Readable.slots in
+    let runs = runs_text_out (Readable slots) (told_out 0 (codes "readable " ++ decimal slots)) c.tell_text.result.0 (g.S.Source.left c.args.input.now) (g.E.Sink.got c.args.err.now) c.readable_text.result _ (told_readable slots) refl c.readable_text.ensures c.tell_text.ensures.says in
+    rw c.in-Readable.is runs
+
+pub returns-in-Witness-clause-runs : goal.returns-in-Witness-clause-runs
+returns-in-Witness-clause-runs g c =
+    let confusion = c.in-Witness.confusion in
+    let tell = c.tell_text-in-Witness in
+    let runs = runs_text_out (Witness confusion) (told_out 1 (witness_text confusion)) tell.result.0 (g.S.Source.left c.args.input.now) (g.E.Sink.got c.args.err.now) c.witness_text.result _ (told_witness confusion) refl c.witness_text.ensures tell.ensures.says in
+    rw c.in-Witness.is runs
+
+pub returns-in-Show-clause-runs : goal.returns-in-Show-clause-runs
+returns-in-Show-clause-runs g c =
+    let format = c.in-Show.format in
+    let tell = c.tell_text-in-Show in
+    let runs = runs_text_out (Show format) (shown format) tell.result.0 (g.S.Source.left c.args.input.now) (g.E.Sink.got c.args.err.now) c.show_text.result _ (told_shown format) refl c.show_text.ensures tell.ensures.says in
     rw c.in-Show.is runs
 
-pub returns-in-Ok-refusal_text-clause-runs : goal.returns-in-Ok-refusal_text-clause-runs
-returns-in-Ok-refusal_text-clause-runs g c =
-    let tell = c.tell-in-Ok-refusal_text in
-    let runs = runs_refused c.in-Refuse.refusal tell.result.0 (g.S.Source.left c.args.input.now) (g.O.Sink.got c.args.out.now) c.as_slice-in-Ok-refusal_text.result.now _ (c.as_slice-in-Ok-refusal_text.ensures ∙ c.in-Ok-refusal_text.ensures) tell.ensures.says tell.ensures.known in
+pub returns-in-Refuse-clause-runs : goal.returns-in-Refuse-clause-runs
+returns-in-Refuse-clause-runs g c =
+    let refusal = c.in-Refuse.refusal in
+    let tell = c.tell_text-in-Refuse in
+    let runs = runs_text_err (Refuse refusal) (told_err (refusal_status refusal) (refusal_text refusal)) tell.result.0 (g.S.Source.left c.args.input.now) (g.O.Sink.got c.args.out.now) c.refusal_text.result _ (told_refused refusal) refl c.refusal_text.ensures (rw (← c.refusal_status.ensures) tell.ensures.says) in
     rw c.in-Refuse.is runs

@@ -3,6 +3,7 @@ use Rattle.std.specs.Prelude.{FitsSigned}
 use Rattle.std.specs.Int.{w64}
 use Rattle.lf_format.specs.declared.kind.Kind.{Kind}
 use Rattle.lf_format.proofs.SomeValues.{IsTop, top-decides, texts-decide, words-decide, query-some, read-back}
+use Rattle.lf_format.proofs.TimeValues.{IsTime, times-decide}
 use Rattle.lf_format.proofs.some.has_present.Goals as goal
 
 pub returns-in-Num : goal.returns-in-Num
@@ -41,3 +42,21 @@ returns-in-Words c = words-decide c.args.kind.now c.in-Words.d c.args.absent c.a
 
 pub returns-in-Query : goal.returns-in-Query
 returns-in-Query c = ((λ _. query-some c.args.kind.now c.in-Query.field-0 c.args.absent c.args.quoted c.in-Query.is), (λ _. refl))
+
+pub returns-in-Clf : goal.returns-in-Clf
+returns-in-Clf c = times-decide c.args.kind.now c.args.absent c.args.quoted (subst IsTime (sym c.in-Clf.is) tt)
+
+pub returns-in-Iso : goal.returns-in-Iso
+returns-in-Iso c = times-decide c.args.kind.now c.args.absent c.args.quoted (subst IsTime (sym c.in-Iso.is) tt)
+
+pub returns-in-IsoMillis : goal.returns-in-IsoMillis
+returns-in-IsoMillis c = times-decide c.args.kind.now c.args.absent c.args.quoted (subst IsTime (sym c.in-IsoMillis.is) tt)
+
+pub returns-in-Ha : goal.returns-in-Ha
+returns-in-Ha c = times-decide c.args.kind.now c.args.absent c.args.quoted (subst IsTime (sym c.in-Ha.is) tt)
+
+pub returns-in-Date : goal.returns-in-Date
+returns-in-Date c = times-decide c.args.kind.now c.args.absent c.args.quoted (subst IsTime (sym c.in-Date.is) tt)
+
+pub returns-in-Clock : goal.returns-in-Clock
+returns-in-Clock c = times-decide c.args.kind.now c.args.absent c.args.quoted (subst IsTime (sym c.in-Clock.is) tt)

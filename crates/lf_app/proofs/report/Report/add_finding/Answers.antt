@@ -2,7 +2,7 @@ use Rattle.std.proofs.Common.{subst}
 use Rattle.lf_app.specs.declared.verdict.Finding.{Finding}
 use Rattle.lf_app.specs.declared.verdict.Verdict.TheVariants.{Found}
 use Rattle.lf_app.specs.Verdicts.{IsOfFormat}
-use Rattle.lf_app.proofs.Texts.{record_json}
+use Rattle.lf_json.proofs.Sorts.{record_json}
 use Rattle.lf_app.proofs.report.Report.add_finding.Goals as goal
 
 pub write_record-requires : goal.write_record-requires

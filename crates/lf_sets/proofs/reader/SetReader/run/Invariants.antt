@@ -1,12 +1,11 @@
-use Rattle.std.proofs.Common.{◌≡◌, ◌<◌, take, drop}
-use Rattle.lf_core.specs.Marked.{IsRun, stop}
-use Rattle.lf_sets.specs.Sets.{CanEnd}
+use Rattle.std.proofs.Common.{◌≡◌, ◌-◌, ◌*◌, [], ◌∷◌, length, take, drop, reverse}
+use Rattle.lf_sets.specs.declared.blocks.TheConstants.{BLOCK}
+use Rattle.lf_sets.specs.Reached.{IsLedTo, IsEndingRun}
 use Rattle.lf_sets.proofs.reader.SetReader.run.Given as goal
 
-abbrev pub invariant-loop-i : goal.invariant-loop-i
-invariant-loop-i g l = record {
-  runs : IsRun (g.M.Marked.machine l.m).moves (g.M.Marked.machine l.m).first (take l.i l.line) l.run;
-  stops : stop (g.M.Marked.machine l.m).first l.run ≡ l.point;
-  can : CanEnd (g.M.Marked.machine l.m) (drop l.i l.line) l.point;
-  below : l.point < (g.M.Marked.machine l.m).count;
+abbrev pub invariant-loop-k : goal.invariant-loop-k
+invariant-loop-k g l = record {
+  led : IsLedTo (g.M.Marked.machine l.m) ((g.M.Marked.machine l.m).first ∷ []) (take ((l.last - l.k) * BLOCK) l.line) l.point;
+  ends : IsEndingRun (g.M.Marked.machine l.m) l.point (drop ((l.last - l.k) * BLOCK) l.line) (reverse l.back.items);
+  places : length l.search.forest.places.items ≡ (g.M.Marked.machine l.m).count;
 }

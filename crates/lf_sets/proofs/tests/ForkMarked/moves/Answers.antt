@@ -9,3 +9,6 @@ returns-then-point-eq0-clause-err c = empty_begins c.fill-then-point-eq0.result 
 
 pub returns-then-byte-eq98-clause-err : goal.returns-then-byte-eq98-clause-err
 returns-then-byte-eq98-clause-err c = empty_begins c.fill-then-byte-eq98.result _ c.fill-then-byte-eq98.new.into.items c.fill-then-byte-eq98.ensures.err
+
+pub returns-then-byte-eq99-clause-err : goal.returns-then-byte-eq99-clause-err
+returns-then-byte-eq99-clause-err c = empty_begins c.fill-then-byte-eq99.result _ c.fill-then-byte-eq99.new.into.items c.fill-then-byte-eq99.ensures.err

@@ -1,0 +1,8 @@
+use Rattle.std.proofs.Common.{◌∙◌}
+use Rattle.envoy_front.proofs.front.parse.Goals as goal
+
+pub returns-clause-faulty : goal.returns-clause-faulty
+returns-clause-faulty c = rw (c.as_bytes.ensures.value ∙ c.without_end-front.ensures) at c.read_text.ensures.faulty
+
+pub returns-clause-only_faulty : goal.returns-clause-only_faulty
+returns-clause-only_faulty c = rw (c.as_bytes.ensures.value ∙ c.without_end-front.ensures) at c.read_text.ensures.only_faulty

@@ -1,0 +1,12 @@
+pub mod Envoy
+pub mod Items
+pub mod Command
+pub mod Length
+pub mod Table
+pub mod Reading
+pub mod Parts
+pub mod FoundLaws
+pub mod AgainLaws
+pub mod FaultLaws
+pub mod SlotLaws
+pub mod Laws

@@ -1,0 +1,5 @@
+pub mod Words
+pub mod Rows
+pub mod Changes
+pub mod Cuts
+pub mod ClassBits

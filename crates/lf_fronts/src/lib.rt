@@ -1,0 +1,9 @@
+//! Formats as each front spells them.
+#![tactic(auto)]
+
+mod fronts;
+
+pub use fronts::{one_answer, parse};
+
+#[cfg(test)]
+mod tests;

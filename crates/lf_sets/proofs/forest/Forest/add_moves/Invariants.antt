@@ -1,0 +1,9 @@
+use Rattle.std.proofs.Common.{◌≡◌, length, take}
+use Rattle.lf_sets.specs.Forests.{GainsMoves}
+use Rattle.lf_sets.proofs.forest.Forest.add_moves.Given as goal
+
+abbrev pub invariant-loop-step : goal.invariant-loop-step
+invariant-loop-step l = record {
+  gains : GainsMoves l.level l.at (take l.step-index l.moves) l.fn.self.nodes.items l.self.nodes.items;
+  places : length l.self.places.items ≡ length l.fn.self.places.items;
+}

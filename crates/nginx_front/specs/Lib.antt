@@ -1,0 +1,14 @@
+pub mod Nginx
+pub mod Table
+pub mod Variables
+pub mod Items
+pub mod Reading
+pub mod SlotLaws
+pub mod FoundLaws
+pub mod AgainLaws
+pub mod Laws
+pub mod Directive
+pub mod Scan
+pub mod Head
+pub mod Whole
+pub mod Grammar

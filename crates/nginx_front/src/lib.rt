@@ -1,0 +1,16 @@
+//! Formats as nginx's log_format spells them.
+#![tactic(auto)]
+
+mod directive;
+mod front;
+mod head;
+mod scan;
+mod table;
+mod variable;
+
+pub use directive::{one_directive_answer, parse_directive};
+pub use front::{one_answer, parse};
+pub use table::Escape;
+
+#[cfg(test)]
+mod tests;

@@ -1,0 +1,11 @@
+//! Formats as lists of fields: those of the W3C's draft of an extended log file, and those of IIS.
+#![tactic(auto)]
+
+mod front;
+mod identifier;
+mod table;
+
+pub use front::{one_draft_answer, one_iis_answer, parse_draft, parse_iis};
+
+#[cfg(test)]
+mod tests;
