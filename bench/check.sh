@@ -12,10 +12,10 @@ repeated() { # COUNT TEXT
     echo "$text"
 }
 
-checked() { # NAME SIZE FORMAT
+checked() { # NAME SIZE FORMAT [FRONT]
     local best= memory= answer= seconds kilobytes
     for _ in 1 2 3; do
-        answer=$({ /usr/bin/time -f '%e %M' -o /tmp/logfmt-bench-check "$program" check apache "$3" || true; } | head -n 1)
+        answer=$({ /usr/bin/time -f '%e %M' -o /tmp/logfmt-bench-check "$program" check "${4:-apache}" "$3" || true; } | head -n 1)
         read -r seconds kilobytes < <(tail -n 1 /tmp/logfmt-bench-check)
         if [ -z "$best" ] || [ "$(echo "$seconds < $best" | bc -l)" = 1 ]; then best=$seconds; memory=$kilobytes; fi
     done
@@ -24,6 +24,9 @@ checked() { # NAME SIZE FORMAT
 
 printf '%-28s %6s %9s %9s  %s\n' format size seconds MiB answer
 checked 'combined without its time' 367 '%h %l %u "%r" %>s %b "%{Referer}i" "%{User-agent}i"'
+checked 'combined' 671 '%h %l %u %t "%r" %>s %b "%{Referer}i" "%{User-agent}i"'
+checked 'nginx combined' 668 '$remote_addr - $remote_user [$time_local] "$request" $status $body_bytes_sent "$http_referer" "$http_user_agent"' nginx
+checked 'HAProxy HTTP' 2417 '%ci:%cp [%tr] %ft %b/%s %TR/%Tw/%Tc/%Tr/%Ta %ST %B %CC %CS %tsc %ac/%fc/%bc/%sc/%rc %sq/%bq %hr %hs %{+Q}r' haproxy
 checked '%B%D' 354 '%B%D'
 checked '128 slots %X' 898 "$(repeated 128 %X)"
 checked 'free text and a long tail' 4090 "%{A}i$(repeated 4071 a)"
