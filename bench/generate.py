@@ -1,5 +1,5 @@
 #!/usr/bin/env python3
-"""Writes LINES log lines of a KIND (short, combined, nginx, haproxy) with a fixed seed: generate.py KIND LINES > LOG.
+"""Writes LINES log lines of a KIND (short, plain, combined, nginx, haproxy) with a fixed seed: generate.py KIND LINES > LOG.
 No line holds a byte that a server would escape, so a peer may copy texts into JSON as they stand."""
 import random
 import sys
@@ -48,6 +48,11 @@ def user():
     return "-" if pick.random() < 0.9 else pick.choice(("alice", "bob"))
 
 
+def plain():
+    size = count() if pick.random() < 0.9 else 0
+    return f"{address()} - {user()} {pick.choice(STATUSES)} {size or '-'}"
+
+
 def end_of_combined(status, size):
     time = f"{second()} {pick.choice(('+0000', '-0700', '+0530'))}"
     return f'[{time}] "{request()}" {status} {size} "{referer()}" "{pick.choice(AGENTS)}"'
@@ -71,7 +76,7 @@ def haproxy():
 
 
 def main():
-    line = {"short": short, "combined": combined, "nginx": nginx, "haproxy": haproxy}[sys.argv[1]]
+    line = {"short": short, "plain": plain, "combined": combined, "nginx": nginx, "haproxy": haproxy}[sys.argv[1]]
     left = int(sys.argv[2])
     while left > 0:
         some = min(left, 10000)

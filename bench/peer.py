@@ -1,5 +1,5 @@
 #!/usr/bin/env python3
-"""Reads log lines of a KIND (combined, nginx, haproxy) by python's `re` and writes logfmt's JSON: peer.py KIND < LOG.
+"""Reads log lines of a KIND (plain, combined, nginx, haproxy) by python's `re` and writes logfmt's JSON: peer.py KIND < LOG.
 Texts are copied as they stand, which is right for the lines of generate.py."""
 import re
 import sys
@@ -8,6 +8,7 @@ MONTHS = {name: "%02d" % (number + 1)
           for number, name in enumerate("Jan Feb Mar Apr May Jun Jul Aug Sep Oct Nov Dec".split())}
 TIME = r"\[(\d\d)/(\w\w\w)/(\d{4}):(\d\d:\d\d:\d\d) ([-+]\d\d)(\d\d)\]"
 ENDS = r' "([^"]*)" "([^"]*)"'
+PLAIN = re.compile(r"(\S+) (\S+) (.+) (\d{3}|-) (\d+|-)")
 COMBINED = re.compile(r"(\S+) (\S+) (.+) " + TIME + r' "([^"]*)" (\d{3}|-) (\d+|-)' + ENDS)
 NGINX = re.compile(r"(\S+) - (.+) " + TIME + r' "([^"]*)" (\d{3}) (\d+)' + ENDS)
 NUMBER = r"(-?\d+)"
@@ -27,6 +28,11 @@ def number(field):
 
 def moment(day, month, year, clock, hours, minutes):
     return f'"{year}-{MONTHS[month]}-{day}T{clock}.000{hours}:{minutes}"'
+
+
+def plain(parts):
+    host, name, user, status, size = parts
+    return text(host), text(name), text(user), number(status), "0" if size == "-" else size
 
 
 def combined(parts):
@@ -49,7 +55,8 @@ def haproxy(parts):
 
 
 def main():
-    pattern, record = {"combined": (COMBINED, combined), "nginx": (NGINX, nginx), "haproxy": (HAPROXY, haproxy)}[sys.argv[1]]
+    kinds = {"plain": (PLAIN, plain), "combined": (COMBINED, combined), "nginx": (NGINX, nginx), "haproxy": (HAPROXY, haproxy)}
+    pattern, record = kinds[sys.argv[1]]
     for line in sys.stdin:
         found = pattern.fullmatch(line, 0, len(line) - 1)
         sys.stdout.write("[" + ",".join(record(found.groups())) + "]\n")

@@ -7,7 +7,7 @@ use Rattle.lf_core.specs.Marked.{Machine, IsRun, IsWholeRun, stop}
 use Rattle.lf_core.specs.declared.marked.Move.{Move}
 use Rattle.lf_core.specs.declared.values.Value.{Value}
 use Rattle.lf_format.specs.Keeps.{EachKept}
-use Rattle.lf_format.specs.Lines.{Prints, PrintsNone, line_text}
+use Rattle.lf_format.specs.Lines.{Prints, PrintsNone}
 use Rattle.lf_format.specs.declared.format.Piece.{Piece}
 use Rattle.lf_machine.specs.LineBytes.{LiteralsAreBytes}
 use Rattle.lf_machine.specs.LineMachine.{line_machine, record_moves}

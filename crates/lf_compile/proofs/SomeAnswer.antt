@@ -1,12 +1,12 @@
 -- Each format has an answer.
-use Rattle.std.proofs.Common.{◌≡◌, ℕ, ◌≤◌, ◌<◌, Bool, true, false, List, ◌∷◌, refl, sym, ap, ◌∙◌, arith, ◌⊎◌, inl, inr}
+use Rattle.std.proofs.Common.{ℕ, ◌≤◌, List, refl, sym, ap, ◌∙◌, arith, inl, inr}
 use Rattle.std.specs.Prelude.{Option, Some, None}
 use Rattle.std.proofs.lemmas.Bool.{cases_Bool, cases_lt, false≢true}
 use Rattle.lf_core.specs.Marked.{IsWholeRun}
 use Rattle.lf_core.specs.declared.marked.Move.{Move}
 use Rattle.lf_core.specs.declared.values.Value.{Value}
 use Rattle.lf_format.specs.Keeps.{EachKept}
-use Rattle.lf_format.specs.Lines.{IsRecordOf, line_text}
+use Rattle.lf_format.specs.Lines.{line_text}
 use Rattle.lf_format.specs.Shape.{Shape}
 use Rattle.lf_format.specs.Size.{size_of}
 use Rattle.lf_format.specs.declared.format.Piece.{Piece}

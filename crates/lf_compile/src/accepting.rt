@@ -11,9 +11,11 @@ use crate::limits::SIZE;
 use crate::note::least_note;
 use crate::reader::Reader;
 use crate::refused::{CompileRefused, Refused};
+use crate::written_machine::written_machine;
 use lf_core::{OutOfMemory, Record};
 use lf_format::Format;
 use lf_machine::FormatMachine;
+use lf_written::Written;
 use std::alloc::Global;
 
 /// The reader of a readable format. A refusal gives the format back.
@@ -44,13 +46,13 @@ pub fn compile(alloc: Global, format: Format) -> Result<Reader, CompileRefused>
 }
 
 /// The machine of the format, where that has a reader.
-fn readable_machine(alloc: Global, format: &Format) -> Result<FormatMachine, Refused>
+fn readable_machine(alloc: Global, format: &Format) -> Result<Written<FormatMachine>, Refused>
     requires { size_of format.now.pieces ≤ SIZE }
     ensures same { IfOk result (λ machine. machine ≡ format.now.pieces) }
     ensures ok { IfOk result (λ machine. IsAccepted format.now) }
     ensures err { IfErr result (λ cause. IsCauseOf format.now cause) }
 {
-    let machine = FormatMachine::build(alloc, format)?;
+    let machine = written_machine(alloc, format)?;
     if let Some(record) = refused_note(alloc, format, &machine)? {
         return Err(Refused::Hash(record));
     }
@@ -64,7 +66,7 @@ fn readable_machine(alloc: Global, format: &Format) -> Result<FormatMachine, Ref
 fn refused_note(
     alloc: Global,
     format: &Format,
-    machine: &FormatMachine,
+    machine: &Written<FormatMachine>,
 ) -> Result<Option<Record>, OutOfMemory>
     requires { machine.now ≡ format.now.pieces }
     ensures { IfOk result (λ found. MatchOption found

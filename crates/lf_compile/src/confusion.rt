@@ -9,24 +9,25 @@ ghost use Rattle.lf_compile.specs.Confused.{IsLeastConfused};
 
 use crate::limits::SIZE;
 use crate::refused::Confusion;
+use crate::written_machine::{decode, means_records};
 use lf_core::OutOfMemory;
 use lf_machine::FormatMachine;
 use lf_product::{Pairs, distances};
 use lf_witness::{Witness, least};
+use lf_written::Written;
 use std::alloc::Global;
 
 /// The least confused line and its two least records; None exactly where no line is confused.
 pub(crate) fn least_confusion(
     alloc: Global,
-    machine: &FormatMachine,
+    machine: &Written<FormatMachine>,
 ) -> Result<Option<Confusion>, OutOfMemory>
     requires { size_of machine.now ≤ SIZE }
     ensures { IfOk result (λ found. MatchOption found
         (IsReadable machine.now)
         (λ confusion. IsLeastConfused machine.now confusion.line confusion.first confusion.second)) }
 {
-    machine.is_small();
-    machine.runs();
+    means_records(machine);
     let pairs = distances(alloc, machine)?;
     if !pairs.ambiguous() {
         return Ok(None);
@@ -37,18 +38,17 @@ pub(crate) fn least_confusion(
 /// The least confused line of an ambiguous machine.
 fn confusion_of(
     alloc: Global,
-    machine: &FormatMachine,
+    machine: &Written<FormatMachine>,
     pairs: &Pairs,
 ) -> Result<Confusion, OutOfMemory>
     requires same { pairs.now ≡ written (line_machine machine.now) }
     requires ambiguous { IsAmbiguous (line_machine machine.now) }
     ensures { IfOk result (λ confusion. IsLeastConfused machine.now confusion.line confusion.first confusion.second) }
 {
-    machine.runs();
-    machine.keeps_order();
+    means_records(machine);
     let Witness { line, left, right } = least(alloc, machine, pairs)?;
-    let first = machine.decode(&left)?;
-    let second = machine.decode(&right)?;
+    let first = decode(machine, &left)?;
+    let second = decode(machine, &right)?;
     Ok(Confusion {
         line,
         first,

@@ -8,6 +8,7 @@ mod limits;
 mod note;
 mod reader;
 mod refused;
+mod written_machine;
 
 pub use accepting::compile;
 pub use limits::SIZE;

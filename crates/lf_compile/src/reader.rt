@@ -3,10 +3,12 @@ ghost use Rattle.lf_format.specs.Lines.{IsReadable, PrintsNone};
 ghost use Rattle.lf_compile.specs.Accepted.{IsAccepted};
 ghost use Rattle.lf_compile.specs.Confused.{IsOnlyRecord};
 
+use crate::written_machine::{decode, means_records};
 use lf_core::{OutOfMemory, Record};
 use lf_format::Format;
 use lf_machine::FormatMachine;
 use lf_sets::SetReader;
+use lf_written::Written;
 use std::alloc::Global;
 use std::marker::Model;
 
@@ -14,7 +16,7 @@ use std::marker::Model;
 #[derive(Drop)]
 pub struct Reader {
     format: Format,
-    machine: FormatMachine,
+    machine: Written<FormatMachine>,
 }
 
 impl Model for Reader {
@@ -29,7 +31,7 @@ impl Model for Reader {
 }
 
 impl Reader {
-    pub(crate) fn new(format: Format, machine: FormatMachine) -> Reader
+    pub(crate) fn new(format: Format, machine: Written<FormatMachine>) -> Reader
         requires accepted { IsAccepted format }
         requires same { machine ≡ format.pieces }
         ensures { result ≡ format }
@@ -52,7 +54,8 @@ impl Reader {
     }
 
     /// The one record that prints the line; None exactly where no record does.
-    /// The memory that is used grows with the line's length times the format's size.
+    /// Beside the record, memory is used for 16 bytes each byte of the line, and for the points that are reached: 16 each
+    /// point after each byte of one block of 1,024 bytes, and 4 each point where a block begins.
     pub fn read(&self, alloc: Global, line: &[u8]) -> Result<Option<Record>, OutOfMemory>
         ensures { IfOk result (λ found. MatchOption found
             (PrintsNone self.now.pieces line.now)
@@ -66,7 +69,7 @@ impl Reader {
 /// The one record of a readable format's machine that prints the line.
 fn read_line(
     alloc: Global,
-    machine: &FormatMachine,
+    machine: &Written<FormatMachine>,
     line: &[u8],
 ) -> Result<Option<Record>, OutOfMemory>
     requires { IsReadable machine.now }
@@ -74,9 +77,9 @@ fn read_line(
         (PrintsNone machine.now line.now)
         (λ rec. IsOnlyRecord machine.now line.now rec)) }
 {
-    machine.runs();
+    means_records(machine);
     match SetReader::run(alloc, machine, line)? {
         None => Ok(None),
-        Some(run) => Ok(Some(machine.decode(&run)?)),
+        Some(run) => Ok(Some(decode(machine, &run)?)),
     }
 }

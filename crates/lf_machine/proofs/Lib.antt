@@ -1,10 +1,8 @@
 pub mod Placed
-pub mod TableSizes
 pub mod SizeLaws
 pub mod RunLaws
 pub mod Replicas
-pub mod EndingLaws
-pub mod LoneLaws
+pub mod LetterMoveLaws
 pub mod SpotLaws
 pub mod ToldLaws
 pub mod RecordTold
@@ -14,7 +12,6 @@ pub mod SlotOrder
 pub mod PlainOrder
 pub mod PieceOrder
 pub mod LineOrder
-pub mod TableSteps
 pub mod RecordLaws
 pub mod ByteRuns
 pub mod LineByteLaws

@@ -7,10 +7,10 @@ use Rattle.lf_format.specs.declared.slot.Slot.{Slot as ASlot}
 use Rattle.lf_format.specs.declared.format.Piece.{Piece}
 use Rattle.lf_format.specs.declared.format.Piece.TheVariants.{Literal, Slot}
 use Rattle.lf_machine.specs.PieceNumbers.{slot_count, piece_count}
-use Rattle.lf_machine.specs.Pieces.{table_of}
+use Rattle.lf_code_table.specs.Table.{table_of}
 use Rattle.lf_machine.specs.LineMachine.{line_points}
 use Rattle.lf_format.specs.Size.{prefixes_of, piece_size, pieces_size, size_of}
-use Rattle.lf_machine.proofs.TableSizes.{prefix-count}
+use Rattle.lf_code_table.proofs.TableSizes.{prefix-count}
 
 slot-small : (q : Bool) (s : ASlot) → slot_count q s ≤ (kind_machine s.kind).count * length (table_of s.code) + 3
 slot-small false s = omega arith

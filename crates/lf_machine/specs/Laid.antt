@@ -7,7 +7,7 @@ use Rattle.lf_format.specs.declared.slot.Slot.{Slot as ASlot}
 use Rattle.lf_machine.specs.SlotMoves.{at_moves, at_root, at_state}
 use Rattle.lf_machine.specs.FramedNumbers.{closing_moves}
 use Rattle.lf_machine.specs.Pieces.{slot_machine}
-use Rattle.lf_machine.specs.Pieces.{table_of}
+use Rattle.lf_code_table.specs.Table.{table_of}
 
 -- how many points a slot has among letters
 abbrev pub slot_top : ASlot → ℕ

@@ -3,15 +3,13 @@ pub mod Decoding
 pub mod RecordOrder
 pub mod Places
 pub mod Parted
-pub mod Lone
-pub mod Endings
 pub mod Spots
 pub mod OnBytes
 pub mod LineBytes
 pub mod Letters
 pub mod Paths
 pub mod Parts
-pub mod Table
+pub mod LetterMoves
 pub mod Rows
 pub mod Unquoted
 pub mod Quoted
@@ -28,7 +26,6 @@ pub mod FramedNumbers
 pub mod LiteralNumbers
 pub mod PlainNumbers
 pub mod SlotMoves
-pub mod Prefixes
 pub mod Records
 pub mod Lists
 pub mod SlotMachine

@@ -12,11 +12,12 @@ use Rattle.lf_format.specs.declared.slot.Absent.{Absent}
 use Rattle.lf_format.specs.declared.format.Piece.{Piece}
 use Rattle.lf_format.specs.declared.format.Piece.TheVariants.{Literal, Slot}
 use Rattle.lf_machine.specs.Unquoted.{Within}
-use Rattle.lf_machine.specs.Prefixes.{table-root, table-front, front-table}
+use Rattle.lf_code_table.specs.Prefixes.{table-root, table-front, front-table}
 use Rattle.lf_machine.specs.RowNumbers.{IsPart, AllParts}
 use Rattle.lf_machine.specs.RowMoves.{PartRises, AllRise}
 use Rattle.lf_machine.specs.SlotMoves.{IsLaid, is_nil}
-use Rattle.lf_machine.specs.Pieces.{slot_machine, table_of, PieceEnter, PieceCan, PieceDone, PieceEmpty, piece_marks, HoldsPiece, piece_text, piece_run}
+use Rattle.lf_machine.specs.Pieces.{slot_machine, PieceEnter, PieceCan, PieceDone, PieceEmpty, piece_marks, HoldsPiece, piece_text, piece_run}
+use Rattle.lf_code_table.specs.Table.{table_of}
 use Rattle.lf_machine.specs.PlainNumbers.{plain_number, PlainValid, plain_state, plain_enter, plain_moves, plain_done, plain_empty, plain-enter_rises, plain-moves_rise, plain-range, plain-back, plain-enters, plain-entered, plain-goes, plain-gone, plain-ends, plain-ended, plain-bare, plain-bared}
 use Rattle.lf_machine.specs.FramedNumbers.{framed_number, FramedValid, framed_state, framed_enter, framed_moves, framed_done, framed-enter_rises, framed-moves_rise, framed-range, framed-back, framed-enters, framed-entered, framed-goes, framed-gone, framed-ends, framed-ended}
 use Rattle.lf_machine.specs.LiteralNumbers.{literal_at, literal_number, LiteralValid, literal_state, literal-range, literal-back, literal-goes, literal-gone, literal-rises, literal-ends, literal-ended, literal-bare, literal-bared}

@@ -16,7 +16,7 @@ use Rattle.lf_format.specs.declared.format.Piece.{Piece}
 use Rattle.lf_format.specs.declared.format.Piece.TheVariants.{Literal, Slot}
 use Rattle.lf_machine.specs.Paths.{Step}
 use Rattle.lf_machine.specs.SlotMachine.{SlotMachine}
-use Rattle.lf_machine.specs.Table.{prefix_table}
+use Rattle.lf_code_table.specs.Table.{table_of}
 use Rattle.lf_machine.specs.Unquoted.{Said, nothing, letters, Within, SlotEnter, SlotCan, SlotDone, SlotEmpty, HoldsSaid, said_text, said_run}
 use Rattle.lf_machine.specs.Quoted.{QuotedEnter, QuotedCan, QuotedDone, HoldsQuoted, quoted_text, quoted_run}
 use Rattle.lf_machine.specs.Literal.{LiteralNext, LiteralCan, LiteralDone, IsOver, literal_run}
@@ -62,10 +62,6 @@ first-byte (b ∷ rest) h = (b, rest, refl)
 -- each word has a first byte
 pub least_of : (code : Coding) → (c : ℕ) → coding_takes code c ≡ true → (b : ℕ) × (rest : List ℕ) × (coding_word code c ≡ b ∷ rest)
 least_of code c h = let l : IsCode (coding_takes code) (coding_word code) = coding_laws code in first-byte (coding_word code c) (l.least c h)
-
--- the proper prefixes of a code's words, each once
-abbrev pub table_of : Coding → List (List ℕ)
-table_of code = prefix_table (coding_takes code) (coding_word code) 256
 
 -- what the part of a slot is made of
 abbrev pub slot_machine : Kind → Coding → Absent → Bool → SlotMachine

@@ -6,8 +6,9 @@ use Rattle.lf_core.specs.declared.marked.Move.{Move}
 use Rattle.lf_machine.specs.Paths.{Step}
 use Rattle.lf_machine.specs.Letters.{At, inner, letter_step, CanStep, IsDone}
 use Rattle.lf_machine.specs.Lists.{none-there, one-there, there-one, Rises, rises-append}
-use Rattle.lf_machine.specs.Table.{index_of, letter_moves, one_letter, letter_move, letter-moves, letter-moved, same_list}
-use Rattle.lf_machine.specs.Prefixes.{Has, index-there, IsFront}
+use Rattle.lf_code_table.specs.Table.{index_of, same_list}
+use Rattle.lf_machine.specs.LetterMoves.{letter_moves, one_letter, letter_move, letter-moves, letter-moved}
+use Rattle.lf_code_table.specs.Prefixes.{Has, index-there, IsFront}
 use Rattle.lf_machine.specs.Numbered.{numbered}
 use Rattle.lf_machine.specs.Unquoted.{bool_cases}
 use Rattle.lf_machine.specs.SlotMachine.{SlotMachine}

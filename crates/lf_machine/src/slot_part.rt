@@ -5,14 +5,14 @@ ghost use Rattle.lf_format.specs.Codings.{coding_takes, coding_word};
 ghost use Rattle.lf_format.specs.Kinds.{kind_machine};
 ghost use Rattle.lf_machine.specs.Laid.{slot_steps, slot_top, slot_closing, slot_root};
 ghost use Rattle.lf_machine.specs.PieceNumbers.{slot_count, slot_enters, slot_moves, slot_is_done, slot_is_empty, slot_bare};
-ghost use Rattle.lf_machine.specs.Pieces.{table_of};
+ghost use Rattle.lf_code_table.specs.Table.{table_of, index_of};
 ghost use Rattle.lf_machine.specs.Pieces.{is_one, is_blank, dash_of, blank_of};
 ghost use Rattle.lf_machine.specs.Places.{IsNear, placed, aimed, one_move};
 ghost use Rattle.lf_machine.specs.SlotMoves.{is_nil, inner_move};
-ghost use Rattle.lf_machine.specs.Table.{index_of, one_letter};
+ghost use Rattle.lf_machine.specs.LetterMoves.{one_letter};
 
-use crate::code_table::{CodeTable, is_word};
 use crate::place::{Aim, Moves, Place};
+use lf_code_table::{CodeTable, is_word};
 use lf_core::{Domain, OutOfMemory};
 use lf_escape::Code;
 use lf_format::{Absent, Slot};

@@ -1,5 +1,5 @@
 -- Lists of arrivals by target, one more.
-use Rattle.std.proofs.Common.{◌≡◌, ℕ, ◌+◌, ◌<◌, ◌≤◌, ◌⊎◌, inl, inr, List, [], ◌∷◌, ◌++◌, length, get_or, set, take, refl, sym, ap, ◌∙◌, subst, get_or-set_same, get_or-set_other}
+use Rattle.std.proofs.Common.{◌≡◌, ℕ, ◌+◌, ◌<◌, ◌≤◌, ◌⊎◌, inl, inr, Bool, List, [], ◌∷◌, ◌++◌, length, get_or, set, take, refl, sym, ap, ◌∙◌, subst, get_or-set_same, get_or-set_other}
 use Rattle.std.specs.Prelude.{Vec, slice_index_or}
 use Rattle.std.specs.List.{Contains}
 use Rattle.std.specs.declared.alloc.Global.{Global}
@@ -13,7 +13,7 @@ use Rattle.lf_core.specs.Written.{WrittenMachine, points_of, moves_at, machine_o
 use Rattle.lf_product.specs.declared.arrivals.Arrival.{Arrival}
 use Rattle.lf_product.specs.Written.{cells_of, rows_of}
 use Rattle.lf_product.specs.declared.arrivals.Departure.{Departure}
-use Rattle.lf_product.specs.Arcs.{Departs, HaveBytes, Arrives}
+use Rattle.lf_product.specs.Arcs.{seen, IsSeen, Departs, HaveBytes, Arrives}
 use Rattle.lf_product.proofs.Sweep.{contains_none, contains_take_more, contains_whole}
 
 -- the lists with one more arrival at a target
@@ -69,20 +69,20 @@ moves_on w from b x lawful h =
 pub row_at : (rows : List (Vec (Vec Move Global) Global)) (i : ℕ) (v : Vec (Vec Move Global) Global) → i < length rows → v ≡ get_or rows i v → get_or (rows_of rows) i [] ≡ cells_of v.items
 row_at rows i v lt is = get_or-map (λ (r : Vec (Vec Move Global) Global). cells_of r.items) rows i v [] lt ∙ ap (λ (r : Vec (Vec Move Global) Global). cells_of r.items) (sym is)
 
-pub depart_leads : (w : WrittenMachine) (from : ℕ) (row : List (Vec Move Global)) (ds : List Departure) → slice_index_or w.rows from [] ≡ cells_of row → ((x : Move) (b : ℕ) → b < 256 → Departs ds x b → Contains (slice_index_or (cells_of row) b []) x) → (d : Departure) → Contains ds d → (b : ℕ) → b < 256 → HasByte d.bytes b → Contains (moves_at w from b) (record { mark = d.mark; to = d.to })
-depart_leads w from row ds e froms d h b low on =
+pub depart_leads : (w : WrittenMachine) (marked : Bool) (from : ℕ) (row : List (Vec Move Global)) (ds : List Departure) → slice_index_or w.rows from [] ≡ cells_of row → ((x : Move) (b : ℕ) → b < 256 → Departs ds x b → IsSeen marked (slice_index_or (cells_of row) b []) x) → (d : Departure) → Contains ds d → (b : ℕ) → b < 256 → HasByte d.bytes b → IsSeen marked (moves_at w from b) (record { mark = d.mark; to = d.to })
+depart_leads w marked from row ds e froms d h b low on =
     let x : Move = record { mark = d.mark; to = d.to } in
-    subst (λ (r : List (List Move)). Contains (slice_index_or r b []) x) (sym e) (froms x b low (record { by = d; listed = h; mark_is = refl; to_is = refl; on = on }))
+    subst (λ (r : List (List Move)). IsSeen marked (slice_index_or r b []) x) (sym e) (froms x b low (record { by = d; listed = h; mark_is = refl; to_is = refl; on = on }))
 
-pub depart_below : (w : WrittenMachine) (from : ℕ) (row : List (Vec Move Global)) (ds : List Departure) → IsMachine (machine_of w) → slice_index_or w.rows from [] ≡ cells_of row → ((x : Move) (b : ℕ) → b < 256 → Departs ds x b → Contains (slice_index_or (cells_of row) b []) x) → HaveBytes ds → (d : Departure) → Contains ds d → d.to < points_of w
-depart_below w from row ds lawful e froms some d h =
+pub depart_below : (w : WrittenMachine) (marked : Bool) (from : ℕ) (row : List (Vec Move Global)) (ds : List Departure) → IsMachine (machine_of w) → slice_index_or w.rows from [] ≡ cells_of row → ((x : Move) (b : ℕ) → b < 256 → Departs ds x b → IsSeen marked (slice_index_or (cells_of row) b []) x) → HaveBytes ds → (d : Departure) → Contains ds d → d.to < points_of w
+depart_below w marked from row ds lawful e froms some d h =
     let s = some d h in
-    let here : Contains (moves_at w from s.0) (record { mark = d.mark; to = d.to }) = depart_leads w from row ds e froms d h s.0 s.1 s.2 in
-    All-contains (λ (x : Move). x.to < points_of w) (moves_at w from s.0) (record { mark = d.mark; to = d.to }) (lawful.stays from s.0 (moves_from w from s.0 (record { mark = d.mark; to = d.to }) here)) here
+    let (x, here, is) = depart_leads w marked from row ds e froms d h s.0 s.1 s.2 in
+    subst (λ (k : ℕ). k < points_of w) (ap (λ (y : Move). y.to) is) (All-contains (λ (y : Move). y.to < points_of w) (moves_at w from s.0) x (lawful.stays from s.0 (moves_from w from s.0 x here)) here)
 
 -- what departs on a byte, of the moves of a row
-pub departs_row : (w : WrittenMachine) (from : ℕ) (row : List (Vec Move Global)) (ds : List Departure) → IsMachine (machine_of w) → slice_index_or w.rows from [] ≡ cells_of row → ((x : Move) (b : ℕ) → b < 256 → Contains (slice_index_or (cells_of row) b []) x → Departs ds x b) → (b : ℕ) (x : Move) → Contains (moves_at w from b) x → Departs ds x b
-departs_row w from row ds lawful e all b x h = all x b (moves_on w from b x lawful h) (subst (λ (r : List (List Move)). Contains (slice_index_or r b []) x) e h)
+pub departs_row : (w : WrittenMachine) (marked : Bool) (from : ℕ) (row : List (Vec Move Global)) (ds : List Departure) → IsMachine (machine_of w) → slice_index_or w.rows from [] ≡ cells_of row → ((x : Move) (b : ℕ) → b < 256 → Contains (slice_index_or (cells_of row) b []) x → Departs ds (seen marked x) b) → (b : ℕ) (x : Move) → Contains (moves_at w from b) x → Departs ds (seen marked x) b
+departs_row w marked from row ds lawful e all b x h = all x b (moves_on w from b x lawful h) (subst (λ (r : List (List Move)). Contains (slice_index_or r b []) x) e h)
 
 -- a departure within the first ones, or the next
 pub departs_take_more : (ds : List Departure) (i : ℕ) (d : Departure) (x : Move) (b : ℕ) → i < length ds → Departs (take (i + 1) ds) x b → Departs (take i ds) x b ⊎ ((d' : Departure) × (get_or ds i d ≡ d') × (d'.mark ≡ x.mark) × (d'.to ≡ x.to) × HasByte d'.bytes b)

@@ -1,11 +1,19 @@
--- moves joined by mark and target, and by where they lead
-use Rattle.std.specs.Prelude.{◌≡◌, ℕ, ◌<◌, List, [], slice_index_or, map, Vec}
+-- moves joined by mark, where marks count, and target, and by where they lead
+use Rattle.std.specs.Prelude.{◌≡◌, ℕ, ◌<◌, Bool, cond, List, [], slice_index_or, map, Vec}
 use Rattle.std.specs.List.{Contains}
 use Rattle.std.specs.declared.alloc.Global.{Global}
 use Rattle.lf_core.specs.declared.marked.Move.{Move}
 use Rattle.lf_product.specs.ByteSet.{HasByte}
 use Rattle.lf_product.specs.declared.arrivals.Departure.{Departure}
 use Rattle.lf_product.specs.declared.arrivals.Arrival.{Arrival}
+
+-- the move, or where marks don't count the same with mark 0
+abbrev pub seen : Bool → Move → Move
+seen marked x = record { mark = cond marked x.mark 0; to = x.to }
+
+-- some move of the list is seen as this one
+abbrev pub IsSeen : Bool → List Move → Move → Type 0
+IsSeen marked xs y = (x : Move) × Contains xs x × (seen marked x ≡ y)
 
 -- the list has the move on the byte
 pub record Departs (ds : List Departure) (x : Move) (b : ℕ) : Type 0 where

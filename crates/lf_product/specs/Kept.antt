@@ -10,8 +10,7 @@ use Rattle.lf_product.specs.Level.{IsWhole}
 
 pub record AreKept (p : Inside) : Type 0 where
   pub start_is : p.start ≡ (table_machine p.table.value).first
-  pub points_is : p.points ≡ (table_machine p.table.value).count
-  pub few : p.points ≤ MOST_POINTS
+  pub few : (table_machine p.table.value).count ≤ MOST_POINTS
   pub lawful : IsMachine (table_machine p.table.value)
   pub whole : IsWhole (table_machine p.table.value) p.distances.items
-  pub exact : IsExact (table_machine p.table.value) p.points NONE p.distances.items
+  pub exact : IsExact (table_machine p.table.value) ((table_machine p.table.value).count) NONE p.distances.items

@@ -2,7 +2,7 @@
 ghost use Rattle.std.specs.Prelude.{◌≡◌, ℕ, ◌<◌, ◌≤◌, ◌⊎◌, ◌++◌, ◌∷◌, [], Contains, length, OnOk, IfOk, slice_index_or, slice_set};
 ghost use Rattle.lf_core.specs.Marked.{IsMachine};
 ghost use Rattle.lf_product.specs.Written.{cells_of, written_of, table_machine, IsFull};
-ghost use Rattle.lf_product.specs.Arcs.{Departs, HaveBytes, lists_of};
+ghost use Rattle.lf_product.specs.Arcs.{seen as seen_of, IsSeen, Departs, HaveBytes, lists_of};
 ghost use Rattle.lf_product.specs.Level.{AreArrivals};
 
 use crate::byte_set::ByteSet;
@@ -52,21 +52,38 @@ fn add_departure(departures: &mut Vec<Departure>, byte: u8, step: Move) -> Resul
     Ok(())
 }
 
-/// The moves of a row, joined by mark and target.
-fn departures_of(alloc: Global, row: &[Vec<Move>]) -> Result<Vec<Departure>, OutOfMemory>
+/// The move, or where marks don't count the same with mark 0.
+fn seen(marked: bool, step: Move) -> Move
+    ensures { result ≡ seen_of marked step }
+{
+    if marked {
+        return step;
+    }
+    Move {
+        mark: 0,
+        to: step.to,
+    }
+}
+
+/// The moves of a row, joined by mark, where marks count, and target.
+fn departures_of(
+    alloc: Global,
+    row: &[Vec<Move>],
+    marked: bool,
+) -> Result<Vec<Departure>, OutOfMemory>
     requires { length row.now ≡ 256 }
     ensures from { IfOk result
         (λ ds. (x : Move) (b : ℕ) → b < 256 → Departs ds.items x b →
-        Contains (slice_index_or (cells_of row.now) b []) x) }
+        IsSeen marked (slice_index_or (cells_of row.now) b []) x) }
     ensures all { IfOk result
         (λ ds. (x : Move) (b : ℕ) → b < 256 → Contains (slice_index_or (cells_of row.now) b []) x →
-        Departs ds.items x b) }
+        Departs ds.items (seen_of marked x) b) }
     ensures some { IfOk result (λ ds. HaveBytes ds.items) }
 {
     let mut departures = Vec::new(alloc);
     for byte in 0..256usize {
         for step in &row[byte] {
-            add_departure(&mut departures, byte as u8, *step)?;
+            add_departure(&mut departures, byte as u8, seen(marked, *step))?;
         }
     }
     Ok(departures)
@@ -100,17 +117,21 @@ fn no_arrivals(alloc: Global, points: usize) -> Result<Vec<Vec<Arrival>>, OutOfM
     Ok(arrivals)
 }
 
-/// By point, the moves that lead there.
-pub(crate) fn arrivals_of(alloc: Global, table: &Table) -> Result<Vec<Vec<Arrival>>, OutOfMemory>
+/// By point, the moves that lead there, with their marks or without.
+pub(crate) fn arrivals_of(
+    alloc: Global,
+    table: &Table,
+    marked: bool,
+) -> Result<Vec<Vec<Arrival>>, OutOfMemory>
     requires lawful { IsMachine (table_machine table.now) }
     requires full { IsFull (written_of table.now) }
     requires few { (table_machine table.now).count ≤ MOST_POINTS }
-    ensures { IfOk result (λ v. AreArrivals (table_machine table.now) (lists_of v.items)) }
+    ensures { IfOk result (λ v. AreArrivals (table_machine table.now) marked (lists_of v.items)) }
 {
     let rows = &table.rows;
     let mut arrivals = no_arrivals(alloc, rows.len())?;
     for from in 0..rows.len() {
-        let departures = departures_of(alloc, &rows[from])?;
+        let departures = departures_of(alloc, &rows[from], marked)?;
         for d in &departures {
             let arrival = Arrival {
                 from: from as u32,

@@ -15,7 +15,6 @@ use std::snapshot::Snapshot;
 #[derive(Drop)]
 pub struct Pairs {
     start: u32,
-    points: usize,
     distances: Vec<u32>,
     table: Snapshot<Table>,
 }
@@ -41,7 +40,6 @@ pub fn distances<M: Marked>(alloc: Global, m: &M) -> Result<Pairs, OutOfMemory>
     let distances = distances_of(alloc, &table)?;
     Ok(Pairs {
         start: table.start,
-        points: table.rows.len(),
         distances,
         table: Snapshot::of(&table),
     })
@@ -55,14 +53,11 @@ impl Pairs {
         requires right { b < (machine_of self.now).count }
         ensures { IsDistance (machine_of self.now) a b differed result }
     {
-        let steps = self.distances[place(
-            self.points,
-            Pair {
-                left: a,
-                right: b,
-                differed,
-            },
-        )];
+        let steps = self.distances[place(Pair {
+            left: a,
+            right: b,
+            differed,
+        })];
         if steps == NONE { None } else { Some(steps) }
     }
 

@@ -1,11 +1,11 @@
 //! The search for distances: backward from pairs of ends, level by level.
-ghost use Rattle.std.specs.Prelude.{◌≡◌, ℕ, ◌+◌, ◌*◌, ◌<◌, ◌≤◌, [], Bool, OnOk, IfOk};
-ghost use Rattle.lf_core.specs.Marked.{IsMachine};
+ghost use Rattle.std.specs.Prelude.{◌≡◌, ℕ, ◌+◌, ◌*◌, ◌<◌, ◌≤◌, [], true, false, Bool, OnOk, IfOk};
+ghost use Rattle.lf_core.specs.Marked.{Machine, IsMachine};
 ghost use Rattle.lf_product.specs.Distance.{Suffices};
 ghost use Rattle.lf_product.specs.Cells.{cell, steps_at, IsExact};
 ghost use Rattle.lf_product.specs.Written.{written_of, table_machine, IsFull};
 ghost use Rattle.lf_product.specs.Arcs.{lists_of};
-ghost use Rattle.lf_product.specs.Level.{Reached, Grows, Complete, AllBefore, room, IsWhole, Follows, LeadsTo, AreArrivals, IsCovered, AreBefore};
+ghost use Rattle.lf_product.specs.Level.{Reached, Grows, Complete, AllBefore, room, IsWhole, Follows, AreArrivals, IsCovered, AreBefore, StepBy, Tell};
 
 use crate::arrivals::{Arrival, arrivals_of};
 use crate::limits::MOST_POINTS;
@@ -24,15 +24,15 @@ pub(crate) struct Pair {
     pub(crate) differed: bool,
 }
 
-/// Where the distance of a flagged pair stands.
-pub(crate) fn place(points: usize, pair: Pair) -> usize
-    requires few { points ≤ MOST_POINTS }
-    requires left { pair.left < points }
-    requires right { pair.right < points }
-    ensures cell { result ≡ cell points pair.left pair.right pair.differed }
-    ensures below { result < 2 * (points * points) }
+/// Where the distance of a flagged pair stands, whichever of its points comes first.
+pub(crate) fn place(pair: Pair) -> usize
+    requires left { pair.left < MOST_POINTS }
+    requires right { pair.right < MOST_POINTS }
+    ensures { result ≡ cell pair.left pair.right pair.differed }
 {
-    2 * (pair.left as usize * points + pair.right as usize) + usize::from(pair.differed)
+    let low = pair.left.min(pair.right) as usize;
+    let high = pair.left.max(pair.right) as usize;
+    high * (high + 1) + 2 * low + usize::from(pair.differed)
 }
 
 /// Gives the pair its distance, if it has none yet.
@@ -57,9 +57,9 @@ fn reach(
     ensures room { OnOk result
         (room NONE distances.new.items waiting.new.items ≡ room NONE distances.old.items waiting.old.items) }
     ensures has { OnOk result
-        (steps_at ((table_machine table.now).count) distances.new.items pair.left pair.right pair.differed < NONE) }
+        (steps_at distances.new.items pair.left pair.right pair.differed < NONE) }
 {
-    let at = place(table.rows.len(), pair);
+    let at = place(pair);
     if distances[at] == NONE {
         waiting.push(pair)?;
         distances[at] = steps;
@@ -80,8 +80,7 @@ fn reach_by(
     requires few { (table_machine table.now).count ≤ MOST_POINTS }
     requires left { x.now.from < (table_machine table.now).count }
     requires right { y.now.from < (table_machine table.now).count }
-    requires left_leads { LeadsTo (table_machine table.now) x.now pair.left }
-    requires right_leads { LeadsTo (table_machine table.now) y.now pair.right }
+    requires step { StepBy (table_machine table.now) x.now y.now pair }
     requires small { steps < NONE }
     requires whole { IsWhole (table_machine table.now) distances.old.items }
     requires way { Follows (table_machine table.now) steps pair }
@@ -126,6 +125,21 @@ fn reach_by(
     Ok(())
 }
 
+/// The lists that tell the steps to the pair: marks count only where its points are one.
+fn telling<'a>(
+    marked: &'a [Vec<Arrival>],
+    joined: &'a [Vec<Arrival>],
+    pair: Pair,
+) -> &'a [Vec<Arrival>]
+    ensures { (m : Machine) → AreArrivals m true (lists_of marked.now) → AreArrivals m false (lists_of joined.now)
+        → Tell m (lists_of result.now) pair }
+{
+    if pair.left == pair.right {
+        return marked;
+    }
+    joined
+}
+
 /// Reaches each pair from which a step leads to the pair.
 fn reach_from(
     table: &Table,
@@ -136,7 +150,7 @@ fn reach_from(
     steps: u32,
 ) -> Result<(), OutOfMemory>
     requires few { (table_machine table.now).count ≤ MOST_POINTS }
-    requires arrivals { AreArrivals (table_machine table.now) (lists_of arrivals.now) }
+    requires arrivals { Tell (table_machine table.now) (lists_of arrivals.now) pair }
     requires left { pair.left < (table_machine table.now).count }
     requires right { pair.right < (table_machine table.now).count }
     requires small { steps < NONE }
@@ -151,6 +165,11 @@ fn reach_from(
         (room NONE distances.new.items waiting.new.items ≡ room NONE distances.old.items waiting.old.items) }
     ensures has { OnOk result (AreBefore (table_machine table.now) NONE distances.new.items pair) }
 {
+    if pair.left != pair.right {
+        if !pair.differed {
+            return Ok(());
+        }
+    }
     for x in &arrivals[pair.left as usize] {
         for y in &arrivals[pair.right as usize] {
             reach_by(table, distances, waiting, x, y, pair, steps)?;
@@ -164,12 +183,14 @@ fn next_level(
     alloc: Global,
     table: &Table,
     distances: &mut Vec<u32>,
-    arrivals: &[Vec<Arrival>],
+    marked: &[Vec<Arrival>],
+    joined: &[Vec<Arrival>],
     level: &[Pair],
     steps: u32,
 ) -> Result<Vec<Pair>, OutOfMemory>
     requires few { (table_machine table.now).count ≤ MOST_POINTS }
-    requires arrivals { AreArrivals (table_machine table.now) (lists_of arrivals.now) }
+    requires marked { AreArrivals (table_machine table.now) true (lists_of marked.now) }
+    requires joined { AreArrivals (table_machine table.now) false (lists_of joined.now) }
     requires small { steps + 1 < NONE }
     requires whole { IsWhole (table_machine table.now) distances.old.items }
     requires reached { Reached (table_machine table.now) ((table_machine table.now).count)
@@ -182,6 +203,7 @@ fn next_level(
 {
     let mut waiting = Vec::new(alloc);
     for pair in level {
+        let arrivals = telling(marked, joined, *pair);
         reach_from(table, distances, &mut waiting, arrivals, *pair, steps + 1)?;
     }
     Ok(waiting)
@@ -198,7 +220,7 @@ fn first_level(
     requires few { (table_machine table.now).count ≤ MOST_POINTS }
     requires whole { IsWhole (table_machine table.now) distances.old.items }
     requires none { (a b : ℕ) (d : Bool) → a < (table_machine table.now).count → b < (table_machine table.now).count →
-        steps_at ((table_machine table.now).count) distances.old.items a b d ≡ NONE }
+        steps_at distances.old.items a b d ≡ NONE }
     ensures whole { OnOk result (IsWhole (table_machine table.now) distances.new.items) }
     ensures reached { IfOk result
         (λ next. Reached (table_machine table.now) ((table_machine table.now).count) NONE 0 distances.new.items next.items) }
@@ -240,12 +262,21 @@ pub(crate) fn distances_of(alloc: Global, table: &Table) -> Result<Vec<u32>, Out
     ensures whole { IfOk result (λ ds. IsWhole (table_machine table.now) ds.items) }
 {
     let points = table.rows.len();
-    let arrivals = arrivals_of(alloc, table)?;
-    let mut distances = vec![in alloc; NONE; 2 * (points * points)]?;
+    let marked = arrivals_of(alloc, table, true)?;
+    let joined = arrivals_of(alloc, table, false)?;
+    let mut distances = vec![in alloc; NONE; points * (points + 1)]?;
     let mut level = first_level(alloc, table, &mut distances)?;
     let mut steps = 0;
     'levels: while !level.is_empty() {
-        level = next_level(alloc, table, &mut distances, &arrivals, &level, steps)?;
+        level = next_level(
+            alloc,
+            table,
+            &mut distances,
+            &marked,
+            &joined,
+            &level,
+            steps,
+        )?;
         steps += 1;
     }
     Ok(distances)

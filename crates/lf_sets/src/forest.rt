@@ -23,13 +23,13 @@ pub(crate) struct Forest {
 }
 
 impl Forest {
-    /// No nodes, and room for the numbers of that many points.
-    pub(crate) fn new(alloc: Global, points: u32) -> Result<Forest, OutOfMemory>
+    /// No nodes, but room for so many, and for the numbers of that many points.
+    pub(crate) fn new(alloc: Global, points: u32, room: usize) -> Result<Forest, OutOfMemory>
         ensures { IfOk result (λ f. length f.places.items ≡ points) }
     {
         let places = vec![in alloc; 0usize; points as usize]?;
         Ok(Forest {
-            nodes: Vec::new(alloc),
+            nodes: Vec::with_capacity(alloc, room)?,
             places,
         })
     }

@@ -17,12 +17,12 @@ pub(crate) struct Search {
 }
 
 impl Search {
-    /// A search of a machine with that many points.
-    pub(crate) fn new(alloc: Global, points: u32) -> Result<Search, OutOfMemory>
+    /// A search of a machine with that many points, with room for so many nodes.
+    pub(crate) fn new(alloc: Global, points: u32, room: usize) -> Result<Search, OutOfMemory>
         ensures { IfOk result (λ s. length s.forest.places.items ≡ points) }
     {
         Ok(Search {
-            forest: Forest::new(alloc, points)?,
+            forest: Forest::new(alloc, points, room)?,
             moves: SmallVec::new(alloc),
         })
     }

@@ -21,7 +21,7 @@ impl SetReader {
             (λ run. IsWholeRun (M.machine m.now) line.now run)) }
     {
         let last = line.len().saturating_sub(1) / BLOCK;
-        let mut search = Search::new(alloc, m.points())?;
+        let mut search = Search::new(alloc, m.points(), line.len().min(BLOCK) + 1)?;
         let sets = checkpoints(alloc, m, line, last, &mut search)?;
         let block = block_at(line, last * BLOCK);
         let level = search.trace(m, &sets[last], block)?;
@@ -29,7 +29,7 @@ impl SetReader {
         let Some(end) = end_place(m, nodes, level) else {
             return Ok(None);
         };
-        let mut back = Vec::new(alloc);
+        let mut back = Vec::with_capacity(alloc, line.len())?;
         let mut point = walk_back(m, &sets[last], block, nodes, end, &mut back)?;
         for k in 0..last {
             let at = last - 1 - k;

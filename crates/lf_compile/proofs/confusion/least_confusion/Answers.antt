@@ -5,7 +5,7 @@ use Rattle.lf_compile.proofs.confusion.least_confusion.Goals as goal
 pub returns-then-not-ambiguous : goal.returns-then-not-ambiguous
 returns-then-not-ambiguous c =
     let pieces = c.args.machine.now in
-    readable_as pieces (line_machine pieces) (record_moves pieces) c.ambiguous.result c.runs.ensures
+    readable_as pieces (line_machine pieces) (record_moves pieces) c.ambiguous.result c.means_records.ensures.runs
     (ambiguous_as (line_machine pieces) c.in_ok-pairs.pairs c.ambiguous.result c.in_ok-pairs.ensures (line-marked pieces) c.ambiguous.ensures)
     c.if-not-ambiguous.true
 

@@ -5,7 +5,7 @@ use Rattle.std.proofs.lemmas.Bool.{cases_lt}
 use Rattle.std.proofs.lemmas.List.Elements.{Contains-get_or}
 use Rattle.lf_core.specs.declared.marked.Move.{Move}
 use Rattle.lf_product.specs.Written.{cells_of}
-use Rattle.lf_product.specs.Arcs.{Departs}
+use Rattle.lf_product.specs.Arcs.{seen, Departs}
 use Rattle.lf_product.proofs.Sweep.{cell_at, contains_take_more, contains_whole}
 use Rattle.lf_product.proofs.arrivals.departures_of.Goals as goal
 
@@ -23,12 +23,12 @@ loop-step-preserved c =
     record {
       from = λ x b low h. elim (c.in_ok-add_departure.ensures.only x b low h) [
         | inl k ↦ c.loop-step.invariant.from x b low k
-        | inr (e, f) ↦ rw (e, f) here
+        | inr (e, f) ↦ rw f (step, here, sym c.seen.ensures ∙ sym e)
       ];
-      all = λ x b below h. c.in_ok-add_departure.ensures.kept x b (c.loop-step.invariant.all x b below h);
+      all = λ x b below h. c.in_ok-add_departure.ensures.kept (seen c.args.marked x) b (c.loop-step.invariant.all x b below h);
       here = λ x h. elim (contains_take_more items c.loop-step.step-index no_move x lt h) [
-        | inl k ↦ c.in_ok-add_departure.ensures.kept x c.loop-byte.byte (c.loop-step.invariant.here x k)
-        | inr e ↦ subst (λ (z : Move). Departs c.add_departure.new.departures.items z c.loop-byte.byte) e c.in_ok-add_departure.ensures.added
+        | inl k ↦ c.in_ok-add_departure.ensures.kept (seen c.args.marked x) c.loop-byte.byte (c.loop-step.invariant.here x k)
+        | inr e ↦ subst (λ (z : Move). Departs c.add_departure.new.departures.items z c.loop-byte.byte) (c.seen.ensures ∙ ap (λ (z : Move). seen c.args.marked z) e) c.in_ok-add_departure.ensures.added
       ];
       some = c.in_ok-add_departure.ensures.some c.loop-step.invariant.some;
     }
@@ -45,7 +45,7 @@ loop-byte-preserved c =
         | inr ge ↦
             let e : b ≡ c.loop-byte.byte = omega (arith, ge, below) in
             let h' : Contains items x = subst (λ (ys : List Move). Contains ys x) (ap (λ (k : ℕ). slice_index_or (cells_of c.args.row.now) k []) e ∙ cell) h in
-            subst (λ (k : ℕ). Departs c.loop-step.departures.items x k) (sym e) (c.loop-step.invariant.here x (contains_whole items c.loop-step.step-index x (omega (arith, c.loop-step-test.false)) h'))
+            subst (λ (k : ℕ). Departs c.loop-step.departures.items (seen c.args.marked x) k) (sym e) (c.loop-step.invariant.here x (contains_whole items c.loop-step.step-index x (omega (arith, c.loop-step-test.false)) h'))
       ];
       some = c.loop-step.invariant.some;
     }

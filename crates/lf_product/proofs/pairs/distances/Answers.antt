@@ -1,5 +1,5 @@
-use Rattle.std.proofs.Common.{rules, arith, ◌≡◌, ℕ, ◌∙◌, List, sym, ap, subst}
-use Rattle.std.proofs.lemmas.List.{length-map}
+use Rattle.std.proofs.Common.{rules, arith, ◌≡◌, ℕ, ◌≤◌, List, sym, ap, subst}
+use Rattle.lf_product.specs.declared.limits.TheConstants.{MOST_POINTS}
 use Rattle.lf_core.specs.Marked.{Machine, IsMachine}
 use Rattle.lf_core.specs.Written.{points_of}
 use Rattle.lf_product.specs.declared.search.TheConstants.{NONE}
@@ -28,15 +28,11 @@ invariant_of-result g c =
     let ds : List ℕ = c.in_ok-distances.distances.items in
     let same : c.of.result.value ≡ t = search rules in
     let n : points_of (written_of c.in_ok-table.table) ≡ (g.M.Marked.machine c.args.m.now).count = points_are m (written_of t) c.in_ok-table.ensures in
-    let len : c.len.result ≡ points_of (written_of c.in_ok-table.table) = search (rules, length-map) in
     let lawful : IsMachine (table_machine t) = lawful_are m (written_of t) c.in_ok-table.ensures (g.met.M.Marked.laws c.args.m.now) in
     record {
       start_is = ap (λ (k : Table). k.start) (sym same);
-      points_is = len ∙ ap (λ (k : Table). points_of (written_of k)) (sym same);
-      few = omega (arith, n, len, c.requires);
+      few = subst (λ (k : Table). points_of (written_of k) ≤ MOST_POINTS) (sym same) (omega (arith, n, c.requires));
       lawful = subst (λ (k : Table). IsMachine (table_machine k)) (sym same) lawful;
       whole = subst (λ (k : Table). IsWhole (table_machine k) ds) (sym same) c.in_ok-distances.ensures.whole;
-      exact =
-          subst (λ (k : Table). IsExact (table_machine k) c.len.result NONE ds) (sym same)
-          (subst (λ (k : ℕ). IsExact (table_machine t) k NONE ds) (sym len) c.in_ok-distances.ensures.exact);
+      exact = subst (λ (k : Table). IsExact (table_machine k) ((table_machine k).count) NONE ds) (sym same) c.in_ok-distances.ensures.exact;
     }

@@ -12,8 +12,8 @@ use Rattle.lf_product.proofs.search.distances_of.Goals as goal
 pub first_level-requires-clause-none : goal.first_level-requires-clause-none
 first_level-requires-clause-none c =
     let n : c.len-points.result ≡ (table_machine c.args.table.now).count = search (rules, length-map) in
-    let is : c.in_ok-distances.distances.items ≡ replicate (2 * (c.len-points.result * c.len-points.result)) NONE = search rules in
-    rw is (λ a b d ha hb. steps_at-replicate ((table_machine c.args.table.now).count) (2 * (c.len-points.result * c.len-points.result)) NONE a b d (ap (λ (k : ℕ). 2 * (k * k)) n) ha hb)
+    let is : c.in_ok-distances.distances.items ≡ replicate (c.len-points.result * (c.len-points.result + 1)) NONE = search rules in
+    rw is (λ a b d ha hb. steps_at-replicate ((table_machine c.args.table.now).count) (c.len-points.result * (c.len-points.result + 1)) NONE a b d (ap (λ (k : ℕ). k * (k + 1)) n) ha hb)
 
 pub levels-preserved : goal.levels-preserved
 levels-preserved c =
@@ -21,12 +21,12 @@ levels-preserved c =
     let fit : c.levels.steps + 1 < NONE = steps_fit m.count c.levels.steps (room NONE c.levels.distances.items c.levels.level.items) MOST_POINTS NONE c.requires.few c.levels.invariant.few (omega arith) in
     let some : 0 < length c.levels.level.items = search rules in
     let same : room NONE c.next_level.new.distances.items c.in_ok-level-2.level.items ≡ room NONE c.levels.distances.items [] = c.in_ok-level-2.ensures.room in
-    let old : c.levels.steps + room NONE c.levels.distances.items c.levels.level.items ≤ 2 * (m.count * m.count) = c.levels.invariant.few in
+    let old : c.levels.steps + room NONE c.levels.distances.items c.levels.level.items ≤ m.count * (m.count + 1) = c.levels.invariant.few in
     record {
       whole = c.in_ok-level-2.ensures.grows.same_length ∙ c.levels.invariant.whole;
       reached = c.in_ok-level-2.ensures.reached;
       complete = next_complete m NONE c.levels.steps c.levels.distances.items c.next_level.new.distances.items c.levels.level.items c.in_ok-level-2.level.items c.requires.lawful fit c.levels.invariant.reached c.levels.invariant.complete c.in_ok-level-2.ensures.reached c.in_ok-level-2.ensures.grows
-          (subst (λ (ps : List Pair). AllBefore m NONE c.next_level.new.distances.items ps) c.deref-in-levels.ensures.value c.in_ok-level-2.ensures.has);
+          (subst (λ (ps : List Pair). AllBefore m NONE c.next_level.new.distances.items ps) c.deref-in-levels-2.ensures.value c.in_ok-level-2.ensures.has);
       few = omega (arith, same, old, some);
     }
 

@@ -9,7 +9,7 @@ invariant-levels l = record {
   whole : IsWhole (table_machine l.table) l.distances.items;
   reached : Reached (table_machine l.table) ((table_machine l.table).count) NONE l.steps l.distances.items l.level.items;
   complete : Complete (table_machine l.table) ((table_machine l.table).count) l.steps l.distances.items;
-  few : l.steps + room NONE l.distances.items l.level.items ≤ 2 * ((table_machine l.table).count * (table_machine l.table).count);
+  few : l.steps + room NONE l.distances.items l.level.items ≤ (table_machine l.table).count * ((table_machine l.table).count + 1);
 }
 
 abbrev pub decreases-levels : goal.decreases-levels

@@ -19,6 +19,9 @@ reach_from-requires-clause-right c = c.requires.reached.waits_right (get_or c.ar
 pub reach_from-requires-clause-way : goal.reach_from-requires-clause-way
 reach_from-requires-clause-way c = (c.args.steps, omega arith, c.requires.reached.waits_at (get_or c.args.level.now c.loop-pair.pair-index no_pair) (Contains-get_or c.args.level.now c.loop-pair.pair-index no_pair (omega arith)))
 
+pub reach_from-requires-clause-arrivals : goal.reach_from-requires-clause-arrivals
+reach_from-requires-clause-arrivals c = c.telling-arrivals.ensures (table_machine c.args.table.now) c.requires.marked c.requires.joined
+
 pub loop-pair-preserved : goal.loop-pair-preserved
 loop-pair-preserved c =
     let m = table_machine c.args.table.now in

@@ -5,13 +5,12 @@ use Rattle.lf_format.specs.Codings.{coding_takes, coding_word}
 use Rattle.lf_format.specs.Kinds.{kind_machine}
 use Rattle.lf_format.specs.declared.kind.Coding.{Coding}
 use Rattle.lf_format.specs.declared.slot.Slot.{Slot}
-use Rattle.lf_machine.specs.Endings.{letters_ending}
-use Rattle.lf_machine.specs.Lone.{lone_of}
-use Rattle.lf_machine.specs.Pieces.{table_of}
+use Rattle.lf_code_table.specs.Endings.{letters_ending}
+use Rattle.lf_code_table.specs.Lone.{lone_of}
+use Rattle.lf_code_table.specs.Table.{table_of, index_of}
 use Rattle.lf_machine.specs.SlotMoves.{inner_move}
-use Rattle.lf_machine.specs.Table.{index_of, one_letter, letter_moves}
-use Rattle.lf_machine.proofs.EndingLaws.{letters-moves}
-use Rattle.lf_machine.proofs.LoneLaws.{length-none, lone-moves}
+use Rattle.lf_machine.specs.LetterMoves.{one_letter, letter_moves}
+use Rattle.lf_machine.proofs.LetterMoveLaws.{length-none, letters-moves, lone-moves}
 use Rattle.lf_machine.proofs.Placed.{put-both}
 use Rattle.lf_machine.proofs.slot_part.SlotPart.push_steps.Goals as goal
 

@@ -53,8 +53,8 @@ loop-k-init g c =
     let most : length line ≤ last * BLOCK + BLOCK = omega (arith, c.saturating_sub-last.ensures) in
     let are : AreReached m (take (last * BLOCK) line) c.deref-2.result.now =
     subst (λ (ps : List ℕ). AreReached m (take (last * BLOCK) line) ps) (sym c.deref-2.ensures.value) (c.in_ok-sets.ensures.each last c.index-2.result.now (omega arith) c.index-2.ensures) in
-    let first : IsEndingRun m (point_at c.as_slice-nodes.result.now c.in-Some.end) [] (reverse c.new-back.result.items) =
-    subst (λ (r : List Move). IsEndingRun m (point_at c.as_slice-nodes.result.now c.in-Some.end) [] (reverse r)) (sym c.new-back.ensures.items) (tt, c.in-Some.ensures.2) in
+    let first : IsEndingRun m (point_at c.as_slice-nodes.result.now c.in-Some.end) [] (reverse c.in_ok-back.back.items) =
+    subst (λ (r : List Move). IsEndingRun m (point_at c.as_slice-nodes.result.now c.in-Some.end) [] (reverse r)) (sym c.in_ok-back.ensures.items) (tt, c.in-Some.ensures.2) in
     record {
       led = subst (λ (n : ℕ). IsLedTo m (m.first ∷ []) (take (n * BLOCK) line) point) (sym all) (are.reached point c.in_ok-point.ensures.from);
       ends = subst (λ (n : ℕ). IsEndingRun m point (drop (n * BLOCK) line) (reverse back)) (sym all)

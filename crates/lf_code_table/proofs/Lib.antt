@@ -1,0 +1,4 @@
+pub mod TableSizes
+pub mod TableSteps
+pub mod EndingLaws
+pub mod LoneLaws

@@ -1,0 +1,4 @@
+pub mod Table
+pub mod Prefixes
+pub mod Lone
+pub mod Endings

@@ -1,0 +1,10 @@
+use Rattle.std.proofs.Common.{subst}
+use Rattle.lf_format.specs.Lines.{IsReadable}
+use Rattle.lf_compile.proofs.accepting.readable_machine.Goals as goal
+
+pub returns-in-None-clause-ok : goal.returns-in-None-clause-ok
+returns-in-None-clause-ok c = record {
+  within = c.requires;
+  apart = rw c.in_default.is at c.in_ok-record.ensures;
+  readable = subst IsReadable c.in_ok-machine.ensures (rw c.in-None.is at c.in_ok-confusion.ensures);
+}

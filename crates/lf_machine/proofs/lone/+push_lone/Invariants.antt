@@ -1,5 +1,0 @@
-use Rattle.std.proofs.Common.{length}
-use Rattle.lf_machine.proofs.lone.+push_lone.Given as goal
-
-abbrev pub decreases-push_lone : goal.decreases-push_lone
-decreases-push_lone g l = length l.letters.now

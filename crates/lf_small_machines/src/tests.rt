@@ -1,0 +1,120 @@
+ghost use Rattle.std.specs.Prelude.{◌≡◌, IfOk};
+ghost use Rattle.lf_core.specs.Written.{machine_of};
+
+use crate::enumeration::{Found, first_word, number_of, plain_distances, words};
+use crate::small_machines::{LETTERS, Random, SmallMachine, random_machine};
+use lf_core::{Bytes, OutOfMemory};
+use lf_product::{Pairs, distances};
+use lf_witness::{Witness, least, least_from};
+use std::alloc::Global;
+
+/// The least witness of the small machine, where there is one.
+fn witness_of(alloc: Global, m: &SmallMachine) -> Result<Option<Witness>, OutOfMemory> {
+    let pairs = distances(alloc, m)?;
+    if !pairs.ambiguous() {
+        return Ok(None);
+    }
+    Ok(Some(least(alloc, m, &pairs)?))
+}
+
+/// The pairs of the small machine.
+fn pairs_of(alloc: Global, m: &SmallMachine) -> Result<Pairs, OutOfMemory>
+    ensures { IfOk result (λ pairs. (machine_of pairs).count ≡ 6) }
+{
+    distances(alloc, m)
+}
+
+/// Whether each flagged pair has this distance.
+fn have_distances(pairs: &Pairs, plain: &[Option<u32>]) -> bool
+    requires { (machine_of pairs.now).count ≡ 6 }
+{
+    for at in 0..72u32 {
+        let distance = pairs.distance(at / 12, at / 2 % 6, at % 2 == 1);
+        if plain.get(at as usize).copied() != Some(distance) {
+            return false;
+        }
+    }
+    true
+}
+
+/// Whether these are the word and its first runs.
+fn is_found(line: &Bytes, runs: &[u64], found: &Found) -> bool {
+    line.as_slice() == found.word.as_slice() && found.runs.starts_with(runs)
+}
+
+/// Whether the witness is the word with two whole runs that was found, or longer than the words and as long as the distance says.
+fn is_least(witness: &Option<Witness>, found: &Option<Found>, distance: Option<u32>) -> bool {
+    let Some(witness) = witness else {
+        return found.is_none() && distance.is_none();
+    };
+    let len = witness.line.len();
+    if distance.map(|d| d as usize) != Some(len) {
+        return false;
+    }
+    let Some(found) = found else {
+        return len > 6;
+    };
+    let runs = [number_of(&witness.left), number_of(&witness.right)];
+    is_found(&witness.line, &runs, found)
+}
+
+/// Whether the least line that begins with the letter and its least run are those of the enumeration.
+fn agrees_from(
+    alloc: Global,
+    m: &SmallMachine,
+    words: &[Bytes],
+    letter: u8,
+) -> Result<bool, OutOfMemory> {
+    let found = first_word(alloc, m, words, &[letter], 1)?;
+    let Some(headed) = least_from(alloc, m, letter)? else {
+        return Ok(found.is_none());
+    };
+    let Some(found) = found else {
+        return Ok(false);
+    };
+    Ok(is_found(&headed.line, &[number_of(&headed.run)], &found))
+}
+
+/// The same for each letter.
+fn agrees_from_letters(
+    alloc: Global,
+    m: &SmallMachine,
+    words: &[Bytes],
+) -> Result<bool, OutOfMemory> {
+    for letter in LETTERS {
+        if !agrees_from(alloc, m, words, letter)? {
+            return Ok(false);
+        }
+    }
+    Ok(true)
+}
+
+/// Whether the distances and the least witness are those of the enumeration.
+fn agrees(alloc: Global, m: &SmallMachine, words: &[Bytes]) -> Result<bool, OutOfMemory> {
+    let plain = plain_distances(alloc, m)?;
+    let pairs = pairs_of(alloc, m)?;
+    if !have_distances(&pairs, &plain) {
+        return Ok(false);
+    }
+    let witness = witness_of(alloc, m)?;
+    let found = first_word(alloc, m, words, &[], 2)?;
+    Ok(is_least(&witness, &found, plain.first().copied().flatten()))
+}
+
+/// Whether so many random machines do as the enumeration says.
+fn all_agree(alloc: Global, machines: u64) -> Result<bool, OutOfMemory> {
+    let words = words(alloc)?;
+    let mut random = Random::new();
+    for number in 0..machines {
+        let m = random_machine(alloc, &mut random, 3 + number % 12)?;
+        if !agrees(alloc, &m, &words)? || !agrees_from_letters(alloc, &m, &words)? {
+            return Ok(false);
+        }
+    }
+    Ok(true)
+}
+
+#[test]
+fn small_machines(rt: HostRuntime) {
+    assert!(rt; all_agree(rt.alloc(), 200) == Ok(true));
+}
