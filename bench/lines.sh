@@ -4,28 +4,25 @@
 # by one (`next`) or in batches (`batch`).
 set -e
 cd "$(dirname "$0")/.."
-top=$PWD
-work=${TMPDIR:-/tmp}/logfmt-bench-lines
-program=$work/crates/lines_time/out/lines_time
+name=lines_time
+below='lf_core lf_stream'
+. bench/program.sh
 
 keeps() { # FUNCTION VARIABLE VALUE: whether the stream is finished is this value, from turn to turn
-    mkdir -p "$work/crates/lines_time/proofs/$1"
-    cat >"$work/crates/lines_time/proofs/$1/Invariants.antt" <<ANTT
+    mkdir -p "$work/crates/$name/proofs/$1"
+    cat >"$work/crates/$name/proofs/$1/Invariants.antt" <<ANTT
 use Rattle.std.proofs.Common.{◌≡◌, false}
 use Rattle.lf_stream.specs.Standing.{is_finished}
-use Rattle.lines_time.proofs.$1.Given as goal
+use Rattle.$name.proofs.$1.Given as goal
 
 abbrev pub invariant-loop-$2 : goal.invariant-loop-$2
 invariant-loop-$2 l = is_finished l.lines ≡ $3
 ANTT
 }
 
-if [ ! -x "$program" ] || [ -n "$(find crates/lf_stream crates/lf_core bench/lines.sh -newer "$program" -name '*.rt' -o -newer "$program" -name lines.sh | head -n 1)" ]; then
-    rm -rf "$work"
-    mkdir -p "$work"
-    cp -r crates crates.txt HANDLES "$work"
-    mkdir -p "$work/crates/lines_time/src"
-    cat >"$work/crates/lines_time/src/main.rt" <<'RT'
+if ! is_built; then
+    copied
+    cat >"$work/crates/$name/src/main.rt" <<'RT'
 //! Feeds as many pieces as the second argument says, takes the lines one by one or in batches, as the first says, and
 //! prints their number.
 #![tactic(auto)]
@@ -139,9 +136,7 @@ RT
     keeps take_each k 'is_finished l.initial.lines'
     keeps take_batches k 'is_finished l.initial.lines'
     keeps count k false
-    echo 'lines_time: lf_core lf_stream' >>"$work/crates.txt"
-    (cd "$work/crates/lines_time" && rt run -- next 0) >"$work/build.log" 2>&1 || { tail "$work/build.log" >&2; exit 1; }
-    cd "$top"
+    build next 0
 fi
 
 pieces=3052

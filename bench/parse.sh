@@ -3,15 +3,12 @@
 # Linux, so a small program of its own is built beside the crates in a copy of the repository.
 set -e
 cd "$(dirname "$0")/.."
-top=$PWD
-work=${TMPDIR:-/tmp}/logfmt-bench-parse
-program=$work/crates/parse_time/out/parse_time
-if [ ! -x "$program" ] || [ -n "$(find crates/apache_front crates/lf_format bench/parse.sh -newer "$program" -name '*.rt' -o -newer "$program" -name parse.sh | head -n 1)" ]; then
-    rm -rf "$work"
-    mkdir -p "$work"
-    cp -r crates crates.txt HANDLES "$work"
-    mkdir -p "$work/crates/parse_time/src"
-    cat >"$work/crates/parse_time/src/main.rt" <<'RT'
+name=parse_time
+below='lf_core lf_format apache_front'
+. bench/program.sh
+if ! is_built; then
+    copied
+    cat >"$work/crates/$name/src/main.rt" <<'RT'
 //! Parses one Apache format of so many letters `a` as the argument says, and fails where it has not one piece.
 #![tactic(auto)]
 
@@ -56,9 +53,7 @@ fn main(rt: HostRuntime) -> ExitCode {
     ExitCode::from(0)
 }
 RT
-    echo 'parse_time: apache_front lf_format' >>"$work/crates.txt"
-    (cd "$work/crates/parse_time" && rt run) >"$work/build.log" 2>&1 || { tail "$work/build.log" >&2; exit 1; }
-    cd "$top"
+    build
 fi
 
 timed() { # LETTERS: the least of five runs

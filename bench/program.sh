@@ -1,0 +1,21 @@
+# Sourced by the benchmarks that time a small program of their own: wants `name`, the program's, and `below`, the crates
+# that it stands on. It is built beside the crates in a copy of the repository, since it is no part of that.
+work=${TMPDIR:-/tmp}/logfmt-bench-$name
+program=$work/crates/$name/out/$name
+
+is_built() { # whether the program is newer than what it is made of
+    local script=bench/$(basename "$0")
+    [ -x "$program" ] && [ -z "$(find $(printf 'crates/%s ' $below) "$script" -newer "$program" \( -name '*.rt' -o -path "$script" \) | head -n 1)" ]
+}
+
+copied() { # makes the copy, for which the program's sources are to be written
+    rm -rf "$work"
+    mkdir -p "$work"
+    cp -r crates crates.txt HANDLES "$work"
+    mkdir -p "$work/crates/$name/src"
+    echo "$name: $below" >>"$work/crates.txt"
+}
+
+build() { # WORD..: builds the program, and runs it once with these words
+    (cd "$work/crates/$name" && rt run -- "$@") >"$work/build.log" 2>&1 || { tail "$work/build.log" >&2; exit 1; }
+}
