@@ -211,7 +211,7 @@ fn formats_are_copied(rt: HostRuntime) -> Result<(), Fail> {
     let format = parse(rt.alloc(), "%h \"%r\" %>s %X")
         .ok()
         .ok_or("no format")?;
-    let copy = format.copy().ok().ok_or("memory")?;
+    let copy = format.copy()?;
     let text = pieces_text(rt.alloc(), &format)?;
     let again = pieces_text(rt.alloc(), &copy)?;
     assert_eq!(rt; text.as_str(), again.as_str());

@@ -35,10 +35,6 @@ named_says false false o read cause h = h
 name_says : (held own : Flags) (bytes name after : List ℕ) → on_name held own bytes name after ≡ said (name_cause name) (on_name held own bytes name after)
 name_says held own bytes name after = named_says (is_nothing name) (bytes_eq name (codes "o")) (found bytes Nothing own after) (on_row held own bytes name after (row_of name)) (row_cause (row_of name)) (row_says held own bytes name after (row_of name))
 
-pub name_fails : (held own : Flags) (bytes name after : List ℕ) (cause : Cause) → name_cause name ≡ Some cause → on_name held own bytes name after ≡ Failed cause
-unfolding said
-name_fails held own bytes name after cause is = name_says held own bytes name after ∙ ap (λ (o : Option Cause). said o (on_name held own bytes name after)) is
-
 cut_says : (shut good : Bool) (read : Reading Flags) (cause : Option Cause) → read ≡ said cause read
     → cond shut (Failed Unclosed) (cond (not good) (Failed BadFlags) read) ≡ said (cond shut (Some Unclosed) (cond (not good) (Some BadFlags) cause)) (cond shut (Failed Unclosed) (cond (not good) (Failed BadFlags) read))
 unfolding said

@@ -51,6 +51,3 @@ value_cases v w = inr (λ e. cc)
 
 pub same_record : (r s : List Value) → (r ≢ s → ⊥) → r ≡ s
 same_record r s alike = elim (list_cases value_cases r s) [ inl same ↦ same | inr other ↦ absurd (alike other) ]
-
-pub text_cases : (xs ys : List ℕ) → (xs ≡ ys) ⊎ (xs ≢ ys)
-text_cases xs ys = list_cases cases_eq xs ys

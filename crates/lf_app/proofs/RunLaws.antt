@@ -8,7 +8,7 @@ use Rattle.lf_stream.specs.Standing.{Stands, bytes_fed, is_finished, room_of, ha
 use Rattle.lf_stream.specs.declared.limits.TheConstants.{LEAST_ROOM}
 use Rattle.lf_stream.specs.declared.lines.Lines.{Lines as Cutter}
 use Rattle.lf_app.specs.declared.commands.Job.{Job}
-use Rattle.lf_io.specs.Faults.{Rose, HasCause}
+use Rattle.lf_io.specs.Faults.{Rose}
 use Rattle.lf_io.specs.Moves.{Takes, Gets, IsAtEnd}
 use Rattle.lf_io.proofs.Parts.{gets_both, gets_none, takes_both, takes_none}
 use Rattle.lf_app.specs.declared.verdict.Verdict.{Verdict}
@@ -436,27 +436,3 @@ complete_part c status left later s0 s1 o0 o1 e0 e1 out err r t no_s no_o no_e =
 
 pub tells_nothing : (s o e : ℕ) → Tells 6 s s o o e e
 tells_nothing s o e = record { source = λ h. absurd (omega (arith, h)); sink = λ h. absurd (omega (arith, h)); known = omega arith }
-
--- Where a text was told on a sink, its fault alone may have come.
-told_known : (good status : ℕ) (text : Result (List ℕ) OutOfMemory) (appended : List ℕ → Type 0) → (good ≤ 3) ⊎ (good ≡ 7) → TellsText good status text appended → (status ≤ 3) ⊎ (status ≡ 7) ⊎ (status ≡ 5) ⊎ (status ≡ 6)
-told_known good status (Ok text) appended g says = elim says.1 [
-  | inl same ↦ elim g [ inl low ↦ inl (omega (arith, same, low)) | inr seven ↦ inr (inl (same ∙ seven)) ]
-  | inr five ↦ inr (inr (inl five))
-]
-told_known good status (Err memory) appended g says = inr (inr (inr says.0))
-
-pub tells_out : (good status s e o0 o1 : ℕ) (text : Result (List ℕ) OutOfMemory) (out : List ℕ → Type 0) → (good ≤ 3) ⊎ (good ≡ 7) → TellsText good status text out → HasCause o0 o1 (status ≡ 5) → Tells status s s o0 o1 e e
-tells_out good status s e o0 o1 text out g says cause =
-    let known = told_known good status text out g says in record {
-      source = λ h. absurd (omega (arith, h, known));
-      sink = λ h. inl (cause.cause h);
-      known = omega (arith, known);
-    }
-
-pub tells_err : (good status s o e0 e1 : ℕ) (text : Result (List ℕ) OutOfMemory) (err : List ℕ → Type 0) → (good ≤ 3) ⊎ (good ≡ 7) → TellsText good status text err → HasCause e0 e1 (status ≡ 5) → Tells status s s o o e0 e1
-tells_err good status s o e0 e1 text err g says cause =
-    let known = told_known good status text err g says in record {
-      source = λ h. absurd (omega (arith, h, known));
-      sink = λ h. inr (cause.cause h);
-      known = omega (arith, known);
-    }

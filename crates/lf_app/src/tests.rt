@@ -6,12 +6,8 @@ use std::test::Fail;
 #[test]
 fn no_words_are_a_bad_command_line(rt: HostRuntime) -> Result<(), Fail> {
     let mut input = MemSource::new(Bytes::new(rt.alloc()), 1, Vec::new(rt.alloc()));
-    let mut out = MemSink::new(rt.alloc(), 1, Vec::new(rt.alloc()), 100)
-        .ok()
-        .ok_or("out of memory")?;
-    let mut err = MemSink::new(rt.alloc(), 1, Vec::new(rt.alloc()), 100)
-        .ok()
-        .ok_or("out of memory")?;
+    let mut out = MemSink::new(rt.alloc(), 1, Vec::new(rt.alloc()), 100)?;
+    let mut err = MemSink::new(rt.alloc(), 1, Vec::new(rt.alloc()), 100)?;
     let gate = IdleGate;
     let status = run(&rt, rt.alloc(), &[], &mut input, &mut out, &mut err, &gate);
     assert_eq!(rt; status, Status(2));

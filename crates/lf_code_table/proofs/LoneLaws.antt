@@ -7,9 +7,6 @@ use Rattle.std.proofs.lemmas.Bool.Decides.{leb_tells}
 use Rattle.lf_code_table.specs.Lone.{HasFirsts}
 use Rattle.lf_code_table.specs.Table.{index_of}
 
-pub firsts-none : (table : List (List ℕ)) (firsts : List (Option ℕ)) → firsts ≡ [] → HasFirsts table firsts 0
-firsts-none table firsts e = record { many = ap length e; each = λ byte h. absurd (omega (arith, h)) }
-
 -- one more byte, and the number of its text behind the others
 pub firsts-more : (table : List (List ℕ)) (firsts : List (Option ℕ)) (bound : ℕ) (number : Option ℕ) → HasFirsts table firsts bound → number ≡ index_of table (bound ∷ []) → HasFirsts table (firsts ++ number ∷ []) (bound + 1)
 firsts-more table firsts bound number h e = record {

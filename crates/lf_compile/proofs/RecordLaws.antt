@@ -3,7 +3,7 @@ use Rattle.std.proofs.Common.{ℕ, inl, inr, List, sym, ap, ◌∙◌, subst}
 use Rattle.lf_core.specs.Marked.{Machine, IsWholeRun}
 use Rattle.lf_core.specs.declared.marked.Move.{Move}
 use Rattle.lf_core.specs.declared.values.Value.{Value}
-use Rattle.lf_format.specs.Lines.{Prints, PrintsNone, IsReadable}
+use Rattle.lf_format.specs.Lines.{Prints, IsReadable}
 use Rattle.lf_format.specs.declared.format.Piece.{Piece}
 use Rattle.lf_machine.specs.RecordOrder.{KeepsOrder}
 use Rattle.lf_machine.specs.Runs.{HasRuns, IsRecordOfRun}
@@ -18,10 +18,6 @@ whole_of pieces m run runs rec line p = subst (λ (bytes : List ℕ). IsWholeRun
 -- The record of a whole run over the line prints it.
 pub prints_of : (pieces : List Piece) (m : Machine) (run : List Value → List Move) (moves : List Move) (rec : List Value) (line : List ℕ) → IsRecordOfRun pieces m run moves rec → IsWholeRun m line moves → Prints pieces rec line
 prints_of pieces m run moves rec line is whole = record { held = is.held; printed = is.prints line whole }
-
--- Where no whole run stands on the line, no record prints it.
-pub none_prints : (pieces : List Piece) (m : Machine) (run : List Value → List Move) → HasRuns pieces m run → (line : List ℕ) → ((moves : List Move) → IsWholeRun m line moves → ⊥) → PrintsNone pieces line
-none_prints pieces m run runs line none = λ rec p. none (run rec) (whole_of pieces m run runs rec line p)
 
 -- The record of a whole run is the only one that prints the line, where no two do.
 pub only_prints : (pieces : List Piece) (m : Machine) (run : List Value → List Move) → HasRuns pieces m run → IsReadable pieces → (line : List ℕ) (moves : List Move) (rec : List Value) → IsWholeRun m line moves → IsRecordOfRun pieces m run moves rec → IsOnlyRecord pieces line rec

@@ -100,7 +100,7 @@ fn readers_read(rt: HostRuntime) -> Result<(), Fail> {
     ];
     for (text, line, wanted) in rows {
         let reader = reader_of(rt.alloc(), text).ok_or("reader")?;
-        let found = reader.read(rt.alloc(), line).ok().ok_or("memory")?;
+        let found = reader.read(rt.alloc(), line)?;
         let told = match &found {
             None => String::from_str(rt.alloc(), "unread"),
             Some(record) => record_text(rt.alloc(), record),
@@ -164,7 +164,7 @@ fn notes_are_least(rt: HostRuntime) -> Result<(), Fail> {
         (Class::of(b'0', b'9'), "readable"),
     ];
     for (class, wanted) in rows {
-        let format = noted(rt.alloc(), class).ok().ok_or("memory")?;
+        let format = noted(rt.alloc(), class)?;
         let told = answer(rt.alloc(), format)?;
         assert_eq!(rt; told.as_str(), wanted);
     }

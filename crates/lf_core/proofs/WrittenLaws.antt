@@ -26,13 +26,6 @@ row_at m p b h = get_or-map-range_with_len (m.moves p) 0 256 b b [] h (omega ari
 row_is : (m : Machine) (p : ℕ) → p < m.count → get_or (written m).rows p [] ≡ written_row m p
 row_is m p h = get_or-map-range_with_len (written_row m) 0 m.count p p [] h (omega arith)
 
--- each point's row has a list for each byte
-pub written_row_length : (m : Machine) (p : ℕ) → p < m.count → length (slice_index_or (written m).rows p []) ≡ 256
-written_row_length m p h = ap (λ (row : List (List Move)). length row) (row_is m p h) ∙ length_row m p
-
-pub written_ends_length : (m : Machine) → length (written m).ends ≡ m.count
-written_ends_length m = length-map-range_with_len m.is_end 0 m.count
-
 pub written_moves : (m : Machine) (p b : ℕ) → p < m.count → b < 256 → moves_at (written m) p b ≡ m.moves p b
 written_moves m p b hp hb = ap (λ (row : List (List Move)). slice_index_or row b []) (row_is m p hp) ∙ row_at m p b hb
 
@@ -88,10 +81,6 @@ stop_below m p [] [] lawful hp h = hp
 stop_below m p (b ∷ line) (x ∷ run) lawful hp h = stop_below m x.to line run lawful (move_stays m p b x lawful hp h.0) h.1
 stop_below m p [] (x ∷ run) lawful hp h = absurd h
 stop_below m p (b ∷ line) [] lawful hp h = absurd h
-
--- both have the same runs
-pub same_runs : (m : Machine) (p : ℕ) (line : List ℕ) (run : List Move) → IsMachine m → p < m.count → IsRun m.moves p line run ↔ IsRun (machine_of (written m)).moves p line run
-same_runs m p line run lawful hp = (written_run m p line run lawful hp, run_written m p line run lawful hp)
 
 -- both have the same whole runs
 pub same_whole_runs : (m : Machine) (line : List ℕ) (run : List Move) → IsMachine m → IsWholeRun m line run ↔ IsWholeRun (machine_of (written m)) line run

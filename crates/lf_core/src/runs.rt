@@ -1,4 +1,4 @@
-ghost use Rattle.std.specs.Prelude.{◌≡◌, ◌<◌, [], ◌∷◌, ◌++◌, length, slice_index_or, OnOk, OnErr};
+ghost use Rattle.std.specs.Prelude.{◌≡◌, ◌<◌, [], ◌∷◌, ◌++◌, length, reverse, slice_index_or, OnOk, OnErr};
 ghost use Rattle.lf_core.specs.Marked.{no_move};
 
 use crate::marked::Move;
@@ -28,6 +28,15 @@ impl Run {
         Run {
             moves: Vec::new(alloc),
         }
+    }
+
+    /// The run of the moves in a list, the last of which stands first. It takes over the list's memory.
+    pub fn turned(moves: Vec<Move>) -> Run
+        ensures { result ≡ reverse moves.items }
+    {
+        let mut moves = moves;
+        moves.reverse();
+        Run { moves }
     }
 
     /// After want of memory the run is as it was.

@@ -124,8 +124,8 @@ fn each_kind(alloc: Global) -> Result<Record, OutOfMemory> {
 
 #[test]
 fn copies_are_equal(rt: HostRuntime) -> Result<(), Fail> {
-    let rec = each_kind(rt.alloc()).ok().ok_or("memory")?;
-    let copy = rec.copy().ok().ok_or("memory")?;
+    let rec = each_kind(rt.alloc())?;
+    let copy = rec.copy()?;
     let text = format!(in rt.alloc(); "{rec:?}")?;
     let again = format!(in rt.alloc(); "{copy:?}")?;
     assert_eq!(rt; text.as_str(), again.as_str());
@@ -136,10 +136,13 @@ fn copies_are_equal(rt: HostRuntime) -> Result<(), Fail> {
 #[test]
 fn runs_and_texts_keep_what_they_are_given(rt: HostRuntime) -> Result<(), Fail> {
     let mut run = Run::new(rt.alloc());
-    run.push(Move { mark: 1, to: 2 }).ok().ok_or("memory")?;
+    run.push(Move { mark: 1, to: 2 })?;
     assert_eq!(rt; run.as_slice(), [Move { mark: 1, to: 2 }].as_slice());
-    let text = Str::of(rt.alloc(), "héllo").ok().ok_or("memory")?;
-    let copy = text.copy().ok().ok_or("memory")?;
+    let steps = [Move { mark: 3, to: 4 }, Move { mark: 5, to: 6 }];
+    let turned = Run::turned(vec![in rt.alloc(); steps[1], steps[0]]?);
+    assert_eq!(rt; turned.as_slice(), steps.as_slice());
+    let text = Str::of(rt.alloc(), "héllo")?;
+    let copy = text.copy()?;
     assert_eq!(rt; text.as_str(), "héllo");
     assert_eq!(rt; copy.as_str(), "héllo");
     Ok(())
@@ -149,11 +152,11 @@ fn shared<T: Send + Sync>(_value: &T) {}
 
 #[test]
 fn types_are_shared_by_threads(rt: HostRuntime) -> Result<(), Fail> {
-    let rec = each_kind(rt.alloc()).ok().ok_or("memory")?;
+    let rec = each_kind(rt.alloc())?;
     shared(&rec);
     shared(&Run::new(rt.alloc()));
     shared(&Class::of(0, 0));
-    let text = Str::of(rt.alloc(), "a").ok().ok_or("memory")?;
+    let text = Str::of(rt.alloc(), "a")?;
     shared(&text);
     shared(&OutOfMemory);
     Ok(())

@@ -14,9 +14,6 @@ stop-grown : (point : ℕ) (run : List Move) (m : Move) → stop point (run ++ m
 stop-grown point [] m = refl
 stop-grown point (x ∷ run) m = stop-grown x.to run m
 
-pub leads-none : (machine : Machine) → Leads machine [] machine.first
-leads-none machine = ([], tt, refl)
-
 pub leads-on : (machine : Machine) (run : List Move) (point byte : ℕ) (m : Move) → Leads machine run point → Contains (machine.moves point byte) m → Leads machine (run ++ m ∷ []) m.to
 leads-on machine run point byte m (bytes, is, stops) has =
     (bytes ++ byte ∷ [], grown machine.moves machine.first byte bytes run m is (subst (λ p. Contains (machine.moves p byte) m) (sym stops) has), stop-grown machine.first run m)

@@ -152,7 +152,7 @@ fn check_answer(alloc: Global, parts: &Parts, least: Option<&[u8]>) -> Result<()
 
 /// All lines of at most so many of the bytes, which are in rising order. Texts have no other letters than the bytes.
 /// The least line with two records is this one.
-pub fn check_format(
+pub(crate) fn check_format(
     alloc: Global,
     rows: &[Row],
     between: Option<u8>,

@@ -41,12 +41,12 @@ fn values_cmp(pieces: &[Piece], one: &[Value], other: &[Value]) -> Ordering {
 }
 
 /// The first slot whose values differ tells.
-pub fn record_cmp(format: &Format, one: &Record, other: &Record) -> Ordering {
+pub(crate) fn record_cmp(format: &Format, one: &Record, other: &Record) -> Ordering {
     values_cmp(format.pieces(), one.as_slice(), other.as_slice())
 }
 
 /// The first place where the marks differ tells; where they are equal, the points do.
-pub fn run_cmp(one: &Run, other: &Run) -> Ordering {
+pub(crate) fn run_cmp(one: &Run, other: &Run) -> Ordering {
     for (step, across) in one.as_slice().iter().zip(other.as_slice()) {
         let order = (step.mark, step.to).cmp(&(across.mark, across.to));
         if order != Ordering::Equal {

@@ -24,7 +24,7 @@ fn push_texts(
 }
 
 /// The texts of at most so many of the letters, the shorter first; in rising order where the letters are.
-pub fn texts_of(alloc: Global, letters: &[u8], most: u8) -> Result<Vec<Bytes>, OutOfMemory> {
+pub(crate) fn texts_of(alloc: Global, letters: &[u8], most: u8) -> Result<Vec<Bytes>, OutOfMemory> {
     let mut texts = Vec::new(alloc);
     for len in 0..=most {
         push_texts(&Bytes::new(alloc), letters, len, &mut texts)?;
@@ -92,7 +92,7 @@ fn push_records(
 }
 
 /// The line of a record of the format.
-pub fn line_of(
+pub(crate) fn line_of(
     alloc: Global,
     format: &Format,
     record: &Record,
@@ -106,7 +106,7 @@ pub fn line_of(
 }
 
 /// The line of each record of these texts, with at most so many letters together.
-pub fn lines_of(
+pub(crate) fn lines_of(
     alloc: Global,
     format: &Format,
     texts: &[Bytes],

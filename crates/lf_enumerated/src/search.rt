@@ -13,9 +13,9 @@ use std::alloc::Global;
 
 /// A whole run, and the record that it tells.
 #[derive(Drop)]
-pub struct Told {
-    pub run: Run,
-    pub record: Record,
+pub(crate) struct Told {
+    pub(crate) run: Run,
+    pub(crate) record: Record,
 }
 
 fn moves_from(
@@ -81,7 +81,7 @@ fn follow(
 }
 
 /// All whole runs over the line.
-pub fn runs_over(
+pub(crate) fn runs_over(
     alloc: Global,
     machine: &FormatMachine,
     line: &[u8],
@@ -92,7 +92,7 @@ pub fn runs_over(
 }
 
 /// The record of the run that is found over the line.
-pub fn found_in(
+pub(crate) fn found_in(
     alloc: Global,
     machine: &FormatMachine,
     line: &[u8],

@@ -12,7 +12,7 @@ use std::test::Fail;
 
 /// A slot of texts.
 #[derive(Clone, Copy)]
-pub struct Row {
+pub(crate) struct Row {
     letters: &'static str,
     least: u8,
     most: Option<u8>,
@@ -24,7 +24,7 @@ pub struct Row {
 
 impl Row {
     /// Texts of at least so many of the letters.
-    pub fn of(letters: &'static str, least: u8, code: Coding, absent: Absent) -> Row {
+    pub(crate) fn of(letters: &'static str, least: u8, code: Coding, absent: Absent) -> Row {
         Row {
             letters,
             least,
@@ -36,21 +36,21 @@ impl Row {
         }
     }
 
-    pub fn at_most(self, most: u8) -> Row {
+    pub(crate) fn at_most(self, most: u8) -> Row {
         Row {
             most: Some(most),
             ..self
         }
     }
 
-    pub fn present(self) -> Row {
+    pub(crate) fn present(self) -> Row {
         Row {
             present: true,
             ..self
         }
     }
 
-    pub fn quoted(self) -> Row {
+    pub(crate) fn quoted(self) -> Row {
         Row {
             quoted: true,
             ..self
@@ -130,7 +130,7 @@ fn three(alloc: Global, first: Slot, second: Slot, third: Slot) -> Result<Format
 }
 
 /// Two slots, with a literal of one byte between them or none, or three slots.
-pub fn format_of(alloc: Global, rows: &[Row], between: Option<u8>) -> Result<Format, Fail> {
+pub(crate) fn format_of(alloc: Global, rows: &[Row], between: Option<u8>) -> Result<Format, Fail> {
     match (rows, between) {
         ([first, second], None) => Ok(two(alloc, slot_of(alloc, first)?, slot_of(alloc, second)?)?),
         ([first, second], Some(byte)) => {

@@ -261,35 +261,6 @@ keeps_as slot k code kind_is code_is fits takes some = record {
   some = some;
 }
 
--- A text under a code that takes its class.
-pub texts_keeps : (slot : Slot) (code : Coding) (set : Class) (min : ℕ) (fits : min ≤ 99999) → slot.kind ≡ texts set min fits → slot.code ≡ code → TakesClass code set → HoldsSome slot → KeepsSlot slot
-texts_keeps slot code set min fits kind_is code_is within some = keeps_as slot (texts set min fits) code kind_is code_is tt (texts_taken code set min fits within) some
-
--- The same with an upper bound on the number of letters.
-pub bounded_texts_keeps : (slot : Slot) (code : Coding) (set : Class) (min max : ℕ) (least : min ≤ 99999) (most : max ≤ 99999) → slot.kind ≡ bounded_texts set min max least most → slot.code ≡ code → TakesClass code set → HoldsSome slot → KeepsSlot slot
-bounded_texts_keeps slot code set min max least most kind_is code_is within some = keeps_as slot (bounded_texts set min max least most) code kind_is code_is tt (bounded_texts_taken code set min max least most within) some
-
--- A query under a code that takes the question mark and its class.
-pub query_keeps : (slot : Slot) (code : Coding) (d : QueryText) → slot.kind ≡ kind.Query d → slot.code ≡ code → coding_takes code 63 ≡ true → TakesClass code d.class → HoldsSome slot → KeepsSlot slot
-query_keeps slot code d kind_is code_is mark within some = keeps_as slot (kind.Query d) code kind_is code_is tt (query_taken code d mark within) some
-
--- A number as it is.
-pub numbers_keeps : (slot : Slot) (lo hi : ℤ) → slot.kind ≡ numbers lo hi → slot.code ≡ Raw → HoldsSome slot → KeepsSlot slot
-numbers_keeps slot lo hi kind_is code_is some = keeps_as slot (numbers lo hi) Raw kind_is code_is refl (numbers_taken lo hi) some
-
--- Words as they are, none with a line feed.
-pub words_keeps : (slot : Slot) (d : Words) → slot.kind ≡ kind.Words d → slot.code ≡ Raw → list_all (λ word. list_all line_takes word) d.list ≡ true → HoldsSome slot → KeepsSlot slot
-words_keeps slot d kind_is code_is all some = keeps_as slot (kind.Words d) Raw kind_is code_is refl (words_taken Raw d all) some
-
-pub dashed_keeps : (slot : Slot) (lo hi : ℤ) (not_negative : pos 0 ≤ℤ lo) → slot.kind ≡ dashed lo hi not_negative → slot.code ≡ Raw → HoldsSome slot → KeepsSlot slot
-dashed_keeps slot lo hi not_negative kind_is code_is some = keeps_as slot (dashed lo hi not_negative) Raw kind_is code_is refl (dashed_taken lo hi not_negative) some
-
-pub fixed3_keeps : (slot : Slot) (lo hi : ℤ) (not_negative : pos 0 ≤ℤ lo) → slot.kind ≡ fixed3 lo hi not_negative → slot.code ≡ Raw → HoldsSome slot → KeepsSlot slot
-fixed3_keeps slot lo hi not_negative kind_is code_is some = keeps_as slot (fixed3 lo hi not_negative) Raw kind_is code_is refl (fixed3_taken lo hi not_negative) some
-
-pub padded_keeps : (slot : Slot) (radix : Radix) (width : ℕ) (lo hi : ℤ) (not_negative : pos 0 ≤ℤ lo) → slot.kind ≡ padded radix width lo hi not_negative → slot.code ≡ Raw → HoldsSome slot → KeepsSlot slot
-padded_keeps slot radix width lo hi not_negative kind_is code_is some = keeps_as slot (padded radix width lo hi not_negative) Raw kind_is code_is refl (padded_taken radix width lo hi not_negative) some
-
 -- A time as it is.
 pub time_keeps : (slot : Slot) (k : Kind) → IsTime k → slot.kind ≡ k → slot.code ≡ Raw → KeepsSlot slot
 time_keeps slot k is kind_is code_is = keeps_as slot k Raw kind_is code_is (raw_fits k) (time_taken k is) (time_held slot (subst IsTime (sym kind_is) is))

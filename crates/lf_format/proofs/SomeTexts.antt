@@ -122,11 +122,3 @@ either-text other set min most (b ∷ []) w h d = elim (cases_Bool (b == 45)) [
       inl (All-cons (λ letter. is_letter other letter ≡ true) b [] one (All-nil (λ letter. is_letter other letter ≡ true)), h.1, h.2)
 ]
 either-text other set min most (b ∷ c ∷ text) w h d = let len : max min 2 ≤ suc (suc (length text)) = omega (arith, h.1) in inr (h.0, len, h.2)
-
--- A text that isn't empty has a letter at least.
-pub some-text : (set : Class) (min : ℕ) (most : Option ℕ) (text : List ℕ) → IsSized set (max min 1) most text → IsSized set min most text × (text ≢ [])
-some-text set min most text h = ((h.0, omega (arith, h.1), h.2), λ e. let len : length text ≡ 0 = ap length e in absurd (omega (arith, len, h.1)))
-
-pub text-some : (set : Class) (min : ℕ) (most : Option ℕ) (text : List ℕ) → IsSized set min most text → text ≢ [] → IsSized set (max min 1) most text
-text-some set min most [] h d = absurd (d refl)
-text-some set min most (b ∷ text) h d = let len : max min 1 ≤ suc (length text) = omega (arith, h.1) in (h.0, len, h.2)

@@ -1,10 +1,10 @@
 -- A text that begins with items, item by item.
-use Rattle.std.proofs.Common.{◌≡◌, ℕ, ◌<◌, ◌≢◌, ◌≤◌, ◌+◌, List, [], ◌∷◌, ◌++◌, length, take, drop, refl, sym, ap, subst, ◌∙◌, append_assoc, append-nil, length-append, length-drop, arith}
+use Rattle.std.proofs.Common.{◌≡◌, ℕ, ◌<◌, ◌≤◌, ◌+◌, List, [], ◌∷◌, ◌++◌, length, take, drop, refl, sym, ap, subst, ◌∙◌, append_assoc, append-nil, length-append, length-drop, arith}
 use Rattle.lf_format.specs.declared.front.Given.{Given}
 use Rattle.lf_format.specs.declared.built.Built.{Built}
 use Rattle.lf_format.specs.Pieces.{pieces_of, slots_of}
 use Rattle.lf_format.specs.Items.{Item, text_of, given_of, state_after, Stand}
-use Rattle.lf_format.specs.Spelling.{BeginsWith, SpellsPieces, Faulty, no_item, one_too_many, no_piece}
+use Rattle.lf_format.specs.Spelling.{BeginsWith, Faulty, no_item, one_too_many, no_piece}
 use Rattle.lf_format.specs.Fronts.{IsFront}
 use Rattle.lf_format.specs.Items.{Reading, Found, Failed}
 use Rattle.lf_format.specs.declared.format.Piece.{Piece}
@@ -47,9 +47,6 @@ pub record Progress {S : Type 0} (item_is : S → Item S → List ℕ → Type 0
   pub state_is : state_after start items ≡ state
   pub at_is : at ≡ length (text_of items)
   pub built_is : IsBuilt (given_of items) built
-
-pub progress_starts : {S : Type 0} (item_is : S → Item S → List ℕ → Type 0) (start : S) (text : List ℕ) (built : Built) → IsBuilt [] built → Progress item_is start text 0 start built
-progress_starts item_is start text built h = record { items = []; begins = record { parts = refl; stand = tt; few = omega arith }; state_is = refl; at_is = refl; built_is = h }
 
 -- the item at hand, as the front's law has it
 at_hand : {S : Type 0} (reading : S → List ℕ → Reading S) (item_is : S → Item S → List ℕ → Type 0) (fault_is : S → List ℕ → Cause → Type 0) (laws : IsFront reading item_is fault_is)
@@ -104,7 +101,3 @@ at_end item_is start text at state built p high = subst (BeginsWith item_is star
 pub fails_empty : {S : Type 0} (item_is : S → Item S → List ℕ → Type 0) (fault_is : S → List ℕ → Cause → Type 0) (start : S) (text : List ℕ) (at : ℕ) (state : S) (built : Built) (p : Progress item_is start text at state built) (pieces : List Piece) → length text ≤ at
     → ((gs : List Given) → IsBuilt gs built → pieces ≡ pieces_of gs) → pieces ≡ [] → Faulty item_is fault_is start text 0 EmptyFormat
 fails_empty item_is fault_is start text at state built p pieces high all none = no_piece p.items (at_end item_is start text at state built p high) (sym (all (given_of p.items) p.built_is) ∙ none) refl refl
-
-pub spells_all : {S : Type 0} (item_is : S → Item S → List ℕ → Type 0) (start : S) (text : List ℕ) (at : ℕ) (state : S) (built : Built) (p : Progress item_is start text at state built) (pieces : List Piece) → length text ≤ at
-    → ((gs : List Given) → IsBuilt gs built → pieces ≡ pieces_of gs) → pieces ≢ [] → SpellsPieces item_is start text pieces
-spells_all item_is start text at state built p pieces high all some = record { items = p.items; whole = at_end item_is start text at state built p high; pieces_are = all (given_of p.items) p.built_is; some = some }

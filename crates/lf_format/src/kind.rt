@@ -139,6 +139,27 @@ impl Kind {
     }
 }
 
+/// The expression, with the domain of the kind in the place of the name.
+macro_rules! with_domain {
+    ($kind:expr, $domain:ident => $body:expr) => {
+        match $kind {
+            Kind::Num($domain) => $body,
+            Kind::DashZero($domain) => $body,
+            Kind::Fixed3($domain) => $body,
+            Kind::Padded($domain) => $body,
+            Kind::Words($domain) => $body,
+            Kind::Text($domain) => $body,
+            Kind::Query($domain) => $body,
+            Kind::Clf($domain) => $body,
+            Kind::Iso($domain) => $body,
+            Kind::IsoMillis($domain) => $body,
+            Kind::Ha($domain) => $body,
+            Kind::Date($domain) => $body,
+            Kind::Clock($domain) => $body,
+        }
+    };
+}
+
 impl Domain for Kind {
     ghost use Rattle.lf_format.specs.Kinds.{HoldsKind, plain_text, kind_machine, kind_size, kind_laws};
 
@@ -153,129 +174,31 @@ impl Domain for Kind {
     ghost laws = { kind_laws };
 
     fn check(&self, value: &Value) -> bool {
-        match self {
-            Kind::Num(d) => d.check(value),
-            Kind::DashZero(d) => d.check(value),
-            Kind::Fixed3(d) => d.check(value),
-            Kind::Padded(d) => d.check(value),
-            Kind::Words(d) => d.check(value),
-            Kind::Text(d) => d.check(value),
-            Kind::Query(d) => d.check(value),
-            Kind::Clf(d) => d.check(value),
-            Kind::Iso(d) => d.check(value),
-            Kind::IsoMillis(d) => d.check(value),
-            Kind::Ha(d) => d.check(value),
-            Kind::Date(d) => d.check(value),
-            Kind::Clock(d) => d.check(value),
-        }
+        with_domain!(self, domain => domain.check(value))
     }
 
     fn write_plain(&self, value: &Value, into: &mut Bytes) -> Result<(), OutOfMemory> {
-        match self {
-            Kind::Num(d) => d.write_plain(value, into),
-            Kind::DashZero(d) => d.write_plain(value, into),
-            Kind::Fixed3(d) => d.write_plain(value, into),
-            Kind::Padded(d) => d.write_plain(value, into),
-            Kind::Words(d) => d.write_plain(value, into),
-            Kind::Text(d) => d.write_plain(value, into),
-            Kind::Query(d) => d.write_plain(value, into),
-            Kind::Clf(d) => d.write_plain(value, into),
-            Kind::Iso(d) => d.write_plain(value, into),
-            Kind::IsoMillis(d) => d.write_plain(value, into),
-            Kind::Ha(d) => d.write_plain(value, into),
-            Kind::Date(d) => d.write_plain(value, into),
-            Kind::Clock(d) => d.write_plain(value, into),
-        }
+        with_domain!(self, domain => domain.write_plain(value, into))
     }
 
     fn read_plain(&self, alloc: Global, text: &[u8]) -> Result<Option<Value>, OutOfMemory> {
-        match self {
-            Kind::Num(d) => d.read_plain(alloc, text),
-            Kind::DashZero(d) => d.read_plain(alloc, text),
-            Kind::Fixed3(d) => d.read_plain(alloc, text),
-            Kind::Padded(d) => d.read_plain(alloc, text),
-            Kind::Words(d) => d.read_plain(alloc, text),
-            Kind::Text(d) => d.read_plain(alloc, text),
-            Kind::Query(d) => d.read_plain(alloc, text),
-            Kind::Clf(d) => d.read_plain(alloc, text),
-            Kind::Iso(d) => d.read_plain(alloc, text),
-            Kind::IsoMillis(d) => d.read_plain(alloc, text),
-            Kind::Ha(d) => d.read_plain(alloc, text),
-            Kind::Date(d) => d.read_plain(alloc, text),
-            Kind::Clock(d) => d.read_plain(alloc, text),
-        }
+        with_domain!(self, domain => domain.read_plain(alloc, text))
     }
 
     fn points(&self) -> u32 {
-        match self {
-            Kind::Num(d) => d.points(),
-            Kind::DashZero(d) => d.points(),
-            Kind::Fixed3(d) => d.points(),
-            Kind::Padded(d) => d.points(),
-            Kind::Words(d) => d.points(),
-            Kind::Text(d) => d.points(),
-            Kind::Query(d) => d.points(),
-            Kind::Clf(d) => d.points(),
-            Kind::Iso(d) => d.points(),
-            Kind::IsoMillis(d) => d.points(),
-            Kind::Ha(d) => d.points(),
-            Kind::Date(d) => d.points(),
-            Kind::Clock(d) => d.points(),
-        }
+        with_domain!(self, domain => domain.points())
     }
 
     fn start(&self) -> u32 {
-        match self {
-            Kind::Num(d) => d.start(),
-            Kind::DashZero(d) => d.start(),
-            Kind::Fixed3(d) => d.start(),
-            Kind::Padded(d) => d.start(),
-            Kind::Words(d) => d.start(),
-            Kind::Text(d) => d.start(),
-            Kind::Query(d) => d.start(),
-            Kind::Clf(d) => d.start(),
-            Kind::Iso(d) => d.start(),
-            Kind::IsoMillis(d) => d.start(),
-            Kind::Ha(d) => d.start(),
-            Kind::Date(d) => d.start(),
-            Kind::Clock(d) => d.start(),
-        }
+        with_domain!(self, domain => domain.start())
     }
 
     fn step(&self, point: u32, letter: u8) -> Option<u32> {
-        match self {
-            Kind::Num(d) => d.step(point, letter),
-            Kind::DashZero(d) => d.step(point, letter),
-            Kind::Fixed3(d) => d.step(point, letter),
-            Kind::Padded(d) => d.step(point, letter),
-            Kind::Words(d) => d.step(point, letter),
-            Kind::Text(d) => d.step(point, letter),
-            Kind::Query(d) => d.step(point, letter),
-            Kind::Clf(d) => d.step(point, letter),
-            Kind::Iso(d) => d.step(point, letter),
-            Kind::IsoMillis(d) => d.step(point, letter),
-            Kind::Ha(d) => d.step(point, letter),
-            Kind::Date(d) => d.step(point, letter),
-            Kind::Clock(d) => d.step(point, letter),
-        }
+        with_domain!(self, domain => domain.step(point, letter))
     }
 
     fn ends(&self, point: u32) -> bool {
-        match self {
-            Kind::Num(d) => d.ends(point),
-            Kind::DashZero(d) => d.ends(point),
-            Kind::Fixed3(d) => d.ends(point),
-            Kind::Padded(d) => d.ends(point),
-            Kind::Words(d) => d.ends(point),
-            Kind::Text(d) => d.ends(point),
-            Kind::Query(d) => d.ends(point),
-            Kind::Clf(d) => d.ends(point),
-            Kind::Iso(d) => d.ends(point),
-            Kind::IsoMillis(d) => d.ends(point),
-            Kind::Ha(d) => d.ends(point),
-            Kind::Date(d) => d.ends(point),
-            Kind::Clock(d) => d.ends(point),
-        }
+        with_domain!(self, domain => domain.ends(point))
     }
 }
 

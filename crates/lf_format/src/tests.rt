@@ -52,14 +52,12 @@ fn a_dash_is_absence_or_a_text(rt: HostRuntime) -> Result<(), Fail> {
         (Absent::Blank, false, false, true, true),
     ];
     for (absent, present, quoted, missing, dash) in rows {
-        let mut slot = slot_of(rt.alloc(), texts(Class::VISIBLE, 1, None), absent)
-            .ok()
-            .ok_or("memory")?;
+        let mut slot = slot_of(rt.alloc(), texts(Class::VISIBLE, 1, None), absent)?;
         slot.present = present;
         slot.quoted = quoted;
-        let holds_dash = holds_text(rt.alloc(), &slot, b"-").ok().ok_or("memory")?;
-        let holds_letter = holds_text(rt.alloc(), &slot, b"a").ok().ok_or("memory")?;
-        let holds_space = holds_text(rt.alloc(), &slot, b" ").ok().ok_or("memory")?;
+        let holds_dash = holds_text(rt.alloc(), &slot, b"-")?;
+        let holds_letter = holds_text(rt.alloc(), &slot, b"a")?;
+        let holds_space = holds_text(rt.alloc(), &slot, b" ")?;
         assert_eq!(rt; slot.holds(&Value::Missing), missing);
         assert_eq!(rt; holds_dash, dash);
         assert!(rt; holds_letter && !holds_space);
@@ -77,11 +75,9 @@ fn nothing_is_absence_under_blank(rt: HostRuntime) -> Result<(), Fail> {
         (Absent::No, false, true),
     ];
     for (absent, quoted, holds) in rows {
-        let mut slot = slot_of(rt.alloc(), texts(Class::ANY, 0, None), absent)
-            .ok()
-            .ok_or("memory")?;
+        let mut slot = slot_of(rt.alloc(), texts(Class::ANY, 0, None), absent)?;
         slot.quoted = quoted;
-        let held = holds_text(rt.alloc(), &slot, b"").ok().ok_or("memory")?;
+        let held = holds_text(rt.alloc(), &slot, b"")?;
         assert_eq!(rt; held, holds);
     }
     Ok(())
@@ -94,9 +90,7 @@ fn a_zero_that_is_printed_as_a_dash_is_absence(rt: HostRuntime) -> Result<(), Fa
             rt.alloc(),
             Kind::DashZero(DashZero { lo: 0, hi: 9 }),
             absent,
-        )
-        .ok()
-        .ok_or("memory")?;
+        )?;
         assert_eq!(rt; slot.holds(&Value::Num(0)), holds_zero);
         assert!(rt; slot.holds(&Value::Num(9)) && !slot.holds(&Value::Num(10)));
     }
@@ -141,25 +135,21 @@ fn some_slots_hold_no_value(rt: HostRuntime) -> Result<(), Fail> {
         ),
     ];
     for (kind, absent, holds) in rows {
-        let found = has_value(rt.alloc(), kind, absent).ok().ok_or("memory")?;
+        let found = has_value(rt.alloc(), kind, absent)?;
         assert_eq!(rt; found, holds);
     }
-    let word = one_word(rt.alloc(), b"-").ok().ok_or("memory")?;
-    let found = has_value(rt.alloc(), word, Absent::Dash)
-        .ok()
-        .ok_or("memory")?;
+    let word = one_word(rt.alloc(), b"-")?;
+    let found = has_value(rt.alloc(), word, Absent::Dash)?;
     assert!(rt; !found);
     Ok(())
 }
 
 #[test]
 fn copies_are_equal(rt: HostRuntime) -> Result<(), Fail> {
-    let word = one_word(rt.alloc(), b"X").ok().ok_or("memory")?;
-    let slot = slot_of(rt.alloc(), word, Absent::Blank)
-        .ok()
-        .ok_or("memory")?;
-    let copy = slot.copy().ok().ok_or("memory")?;
-    let held = holds_text(rt.alloc(), &copy, b"X").ok().ok_or("memory")?;
+    let word = one_word(rt.alloc(), b"X")?;
+    let slot = slot_of(rt.alloc(), word, Absent::Blank)?;
+    let copy = slot.copy()?;
+    let held = holds_text(rt.alloc(), &copy, b"X")?;
     assert!(rt; held && copy.name.as_str() == "%a" && copy.absent == Absent::Blank);
     let padded = Kind::Padded(Padded {
         radix: Radix::Sixteen,
@@ -167,7 +157,7 @@ fn copies_are_equal(rt: HostRuntime) -> Result<(), Fail> {
         lo: 0,
         hi: 255,
     });
-    let again = padded.copy().ok().ok_or("memory")?;
+    let again = padded.copy()?;
     assert_eq!(rt; again.value_kind(), ValueKind::Number);
     assert_eq!(rt; copy.kind.value_kind(), ValueKind::Text);
     Ok(())
@@ -187,33 +177,23 @@ fn prints(alloc: Global, kind: &Kind, number: i64, wanted: &[u8]) -> Result<bool
 #[test]
 fn kinds_of_numbers_that_fronts_make(rt: HostRuntime) -> Result<(), Fail> {
     let seconds = Kind::fixed3(0, i64::MAX);
-    assert!(rt;
-        prints(rt.alloc(), &seconds, 5, b"0.005")
-            .ok()
-            .ok_or("memory")?
-    );
+    assert!(rt; prints(rt.alloc(), &seconds, 5, b"0.005")?);
     let port = Kind::padded(Radix::Sixteen, 4, 0, 65535);
-    assert!(rt;
-        prints(rt.alloc(), &port, 255, b"00FF")
-            .ok()
-            .ok_or("memory")?
-    );
+    assert!(rt; prints(rt.alloc(), &port, 255, b"00FF")?);
     let status = Kind::numbers(-1, 999);
-    assert!(rt; prints(rt.alloc(), &status, -1, b"-1").ok().ok_or("memory")?);
+    assert!(rt; prints(rt.alloc(), &status, -1, b"-1")?);
     assert!(rt; !status.check(&Value::Num(-2)) && !status.check(&Value::Num(1000)));
     let bytes = Kind::dashed(0, 9);
-    assert!(rt; prints(rt.alloc(), &bytes, 0, b"-").ok().ok_or("memory")?);
+    assert!(rt; prints(rt.alloc(), &bytes, 0, b"-")?);
     Ok(())
 }
 
 #[test]
 fn texts_with_an_upper_bound(rt: HostRuntime) -> Result<(), Fail> {
     let pair = Kind::bounded_texts(Class::VISIBLE, 2, 3);
-    let slot = slot_of(rt.alloc(), pair, Absent::No).ok().ok_or("memory")?;
+    let slot = slot_of(rt.alloc(), pair, Absent::No)?;
     for (text, wanted) in [("a", false), ("ab", true), ("abc", true), ("abcd", false)] {
-        let held = holds_text(rt.alloc(), &slot, text.as_bytes())
-            .ok()
-            .ok_or("memory")?;
+        let held = holds_text(rt.alloc(), &slot, text.as_bytes())?;
         assert_eq!(rt; held, wanted, "at {text}");
     }
     Ok(())
@@ -228,10 +208,10 @@ fn holds_times(rt: &impl Abort, alloc: Global, kind: &Kind, sort: ValueKind) -> 
     });
     assert!(rt; kind.value_kind() == sort);
     for absent in [Absent::No, Absent::Dash, Absent::DashTwo, Absent::Blank] {
-        let copy = kind.copy().ok().ok_or("memory")?;
-        let mut slot = slot_of(alloc, copy, absent).ok().ok_or("memory")?;
+        let copy = kind.copy()?;
+        let mut slot = slot_of(alloc, copy, absent)?;
         slot.present = true;
-        assert!(rt; slot.holds_any().ok().ok_or("memory")?);
+        assert!(rt; slot.holds_any()?);
         assert!(rt; slot.holds(&moment) == (sort == ValueKind::Moment));
         assert!(rt; slot.holds(&Value::Day(11240)) == (sort == ValueKind::Day));
         assert!(rt; slot.holds(&Value::Clock(50_136)) == (sort == ValueKind::Clock));
@@ -256,9 +236,7 @@ fn shared<T: Send + Sync>(_value: &T) {}
 
 #[test]
 fn slots_are_shared_by_threads(rt: HostRuntime) -> Result<(), Fail> {
-    let slot = slot_of(rt.alloc(), texts(Class::ANY, 0, None), Absent::Blank)
-        .ok()
-        .ok_or("memory")?;
+    let slot = slot_of(rt.alloc(), texts(Class::ANY, 0, None), Absent::Blank)?;
     shared(&slot);
     shared(&ValueKind::Clock);
     Ok(())

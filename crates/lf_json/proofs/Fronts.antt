@@ -1,5 +1,5 @@
 -- What was added is a front of what was to be added.
-use Rattle.std.proofs.Common.{◌≡◌, ℕ, List, [], ◌++◌, refl, sym, ap, ◌∙◌, append-nil, append_assoc}
+use Rattle.std.proofs.Common.{◌≡◌, ℕ, List, [], ◌++◌, sym, ap, ◌∙◌, append-nil, append_assoc}
 use Rattle.std.specs.Prelude.{Result, Ok, Err, OnErr}
 use Rattle.lf_core.specs.Adds.{AddsFront}
 
@@ -17,9 +17,6 @@ pub record Leaves (old new whole rest : List ℕ) : Type 0 where
   pub done : List ℕ
   pub split : whole ≡ done ++ rest
   pub added : new ≡ old ++ done
-
-pub leaves_all : (old whole : List ℕ) → Leaves old old whole whole
-leaves_all old whole = record { done = []; split = refl; added = sym (append-nil old) }
 
 -- the first part of the rest was added
 pub leaves_less : (old mid new whole a b rest : List ℕ) → Leaves old mid whole rest → rest ≡ a ++ b → new ≡ mid ++ a → Leaves old new whole b

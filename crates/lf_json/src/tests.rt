@@ -135,7 +135,7 @@ fn texts_are_written(rt: HostRuntime) -> Result<(), Fail> {
     ];
     for (text, json) in rows {
         let mut into = Bytes::new(rt.alloc());
-        write_text(text, &mut into).ok().ok_or("memory")?;
+        write_text(text, &mut into)?;
         assert!(rt; into.as_slice() == json);
     }
     Ok(())
@@ -143,7 +143,7 @@ fn texts_are_written(rt: HostRuntime) -> Result<(), Fail> {
 
 #[test]
 fn records_are_written_and_read_back(rt: HostRuntime) -> Result<(), Fail> {
-    let format = pair(rt.alloc()).ok().ok_or("memory")?;
+    let format = pair(rt.alloc())?;
     let rows: [(Option<i64>, &[u8], &[u8]); 4] = [
         (None, b"", b"[null,\"\"]"),
         (Some(-7), b"a\"", b"[-7,\"a\\\"\"]"),
@@ -159,22 +159,20 @@ fn records_are_written_and_read_back(rt: HostRuntime) -> Result<(), Fail> {
         ),
     ];
     for (number, text, json) in rows {
-        let into = written(rt.alloc(), number, text).ok().ok_or("memory")?;
+        let into = written(rt.alloc(), number, text)?;
         assert!(rt; into.as_slice() == json);
         let back = read_record(rt.alloc(), json, &format).ok().ok_or("unread")?;
         assert!(rt; is_pair(&back, number, text));
     }
     let mut into = Bytes::new(rt.alloc());
-    write_record(&Record::new(rt.alloc()), &mut into)
-        .ok()
-        .ok_or("memory")?;
+    write_record(&Record::new(rt.alloc()), &mut into)?;
     assert!(rt; into.as_slice() == b"[]".as_slice());
     Ok(())
 }
 
 #[test]
 fn other_spellings_are_read(rt: HostRuntime) -> Result<(), Fail> {
-    let format = pair(rt.alloc()).ok().ok_or("memory")?;
+    let format = pair(rt.alloc())?;
     let rows: [(&[u8], Option<i64>, &[u8]); 8] = [
         (b" \t[ 7 ,\r\n\"a\" ]\r ", Some(7), b"a"),
         (b"[0,\"\\u0061\\/\\u00e9\"]", Some(0), b"a/\xc3\xa9"),
@@ -194,7 +192,7 @@ fn other_spellings_are_read(rt: HostRuntime) -> Result<(), Fail> {
 
 #[test]
 fn no_json_and_wrong_counts_are_told(rt: HostRuntime) -> Result<(), Fail> {
-    let format = pair(rt.alloc()).ok().ok_or("memory")?;
+    let format = pair(rt.alloc())?;
     let rows: [(&[u8], &str); 13] = [
         (b"", "NotJson"),
         (b"x", "NotJson"),
@@ -219,7 +217,7 @@ fn no_json_and_wrong_counts_are_told(rt: HostRuntime) -> Result<(), Fail> {
 
 #[test]
 fn the_first_wrong_slot_is_told(rt: HostRuntime) -> Result<(), Fail> {
-    let format = pair(rt.alloc()).ok().ok_or("memory")?;
+    let format = pair(rt.alloc())?;
     let rows: [(&[u8], &str); 17] = [
         (b"[9223372036854775808,\"a\"]", "WrongValue(1)"),
         (b"[-9223372036854775809,\"a\"]", "WrongValue(1)"),
@@ -260,9 +258,9 @@ fn nested(alloc: Global, depth: u32) -> Result<Bytes, OutOfMemory> {
 
 #[test]
 fn nesting_ends_at_127(rt: HostRuntime) -> Result<(), Fail> {
-    let format = pair(rt.alloc()).ok().ok_or("memory")?;
+    let format = pair(rt.alloc())?;
     for (depth, cause) in [(127, "WrongCount(1)"), (128, "NotJson")] {
-        let line = nested(rt.alloc(), depth).ok().ok_or("memory")?;
+        let line = nested(rt.alloc(), depth)?;
         let found = answer(rt.alloc(), line.as_slice(), &format)?;
         assert_eq!(rt; found.as_str(), cause);
     }
@@ -303,7 +301,7 @@ fn at(seconds: i64, millis: u16, offset: i16) -> Value {
 /// The value's JSON text is the string of this text.
 fn writes(rt: &impl Abort, alloc: Global, value: Value, text: &str) -> Result<(), Fail> {
     let json = format!(in alloc; "[\"{text}\"]")?;
-    let into = written_alone(alloc, value).ok().ok_or("memory")?;
+    let into = written_alone(alloc, value)?;
     assert!(rt; into.as_slice() == json.as_bytes(), "{text}");
     Ok(())
 }

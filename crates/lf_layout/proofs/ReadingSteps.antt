@@ -7,7 +7,7 @@ use Rattle.lf_core.specs.declared.values.Value.TheVariants.{Moment as a_moment, 
 use Rattle.lf_layout.specs.Layouts.{HoldsMoment, moment_text, HoldsDay, day_text, HoldsClock, time_text}
 use Rattle.lf_layout.specs.Places.{IsPlaced, iso_date_places, clock_places, layout_places, next_point, is_last}
 use Rattle.lf_layout.specs.Readings.{date_at, second_at, moment_at}
-use Rattle.lf_layout.specs.DomainLaws.{moment_laws, day_laws, clock_laws, accepted-moment, accepted-day, accepted-clock, refused}
+use Rattle.lf_layout.specs.DomainLaws.{moment_laws, day_laws, accepted-moment, accepted-day, accepted-clock, refused}
 use Rattle.lf_layout.specs.Calendar.{day_number}
 use Rattle.lf_layout.specs.declared.layout.DateForm.TheVariants.{Iso}
 use Rattle.lf_layout.specs.declared.layout.Layout.{Layout}
@@ -42,10 +42,6 @@ day-refused places text same e =
 pub day-accepted : (places : List Place) (text : List ℕ) → places ≡ iso_date_places → true ≡ accepts (next_point places) (is_last places) 0 text → (day : ℤ) → day ≡ day_number (date_at Iso text 0) → IsPlainOf HoldsDay day_text text (a_day day)
 day-accepted places text same e day f =
     subst (λ (d : ℤ). IsPlainOf HoldsDay day_text text (a_day d)) (sym f) (accepted-day text (sym (e ∙ ap (accepts_by text) same)))
-
-pub clock-refused : (places : List Place) (text : List ℕ) → places ≡ clock_places → false ≡ accepts (next_point places) (is_last places) 0 text → IsPlainOfNone HoldsClock time_text text
-clock-refused places text same e =
-    refused HoldsClock time_text clock_places clock_laws text (sym (e ∙ ap (accepts_by text) same))
 
 pub clock-accepted : (places : List Place) (text : List ℕ) → places ≡ clock_places → true ≡ accepts (next_point places) (is_last places) 0 text → (second : ℕ) → second ≡ second_at text 0 → IsPlainOf HoldsClock time_text text (a_clock second)
 clock-accepted places text same e second f =

@@ -1,22 +1,31 @@
--- A walk through the letters of a text, a step at a time.
-use Rattle.std.proofs.Common.{◌≡◌, ℕ, ◌+◌, ◌<◌, ◌≤◌, List, ◌∷◌, length, drop, get_or, Option, None, Some, Bool, false, sym, ap, ◌∙◌}
-use Rattle.std.proofs.lemmas.List.{drop_more, drop_all}
+-- A walk along places, a letter each.
+use Rattle.std.proofs.Common.{◌≡◌, ℕ, ◌+◌, ◌≤◌, List, [], ◌∷◌, Some, true, sym, arith}
+use Rattle.std.proofs.lemmas.Bool.Decides.{nat_tests}
 use Rattle.lf_core.specs.Domain.{accepts}
-use Rattle.lf_core.proofs.Accepts.{accepts-step, accepts-stop}
+use Rattle.lf_layout.specs.Choices.{and_parts}
+use Rattle.lf_layout.specs.Places.{IsPlaced, IsReadableFrom, place_exits, after_place, next_point, is_last, is_byte, all_bytes, is_chained}
+use Rattle.lf_layout.specs.PlaceLaws.{run, accepts-run, entry-first, place-stays}
+use Rattle.lf_layout.specs.declared.place.Place.{Place}
 
-module _ (next : ℕ → ℕ → Option ℕ) (ends : ℕ → Bool) (text : List ℕ) (at point : ℕ) (answer : Bool) (so_far : accepts next ends point (drop at text) ≡ answer) where
-  split : at < length text → drop at text ≡ get_or text at 0 ∷ drop (at + 1) text
-  split h = drop_more text at 0 h
+-- fewer memories before the places go too
+narrower : (places : List Place) (entry fewer : ℕ) → fewer ≤ entry → is_chained entry places ≡ true → is_chained fewer places ≡ true
+narrower [] entry fewer l h = grind (arith, nat_tests, h)
+narrower (place ∷ places) entry fewer l h =
+    let f = entry-first entry place places h in
+    grind (arith, nat_tests, f.0, f.1)
 
-  pub walks-on : (after : ℕ) → at < length text → next point (get_or text at 0) ≡ Some after → accepts next ends after (drop (at + 1) text) ≡ answer
-  walks-on after h e =
-      sym (accepts-step next ends point after (get_or text at 0) (drop (at + 1) text) e)
-      ∙ ap (accepts next ends point) (sym (split h)) ∙ so_far
+-- after a letter of the first place the others may be read
+pub reads-on : (place : Place) (places : List Place) (memory letter after : ℕ) → IsReadableFrom memory (place ∷ places) → after_place place memory letter ≡ Some after → IsReadableFrom after places
+reads-on place places memory letter after is e =
+    let f = entry-first (memory + 1) place places is.chained in
+    let d = and_parts (is_byte place) (all_bytes places) is.bytes in
+    let s = place-stays place memory letter after (omega (arith, f.0)) d.0 e in
+    record {
+      bytes = d.1;
+      chained = narrower places (place_exits place) (after + 1) (omega (arith, s.1)) f.1;
+      few = omega (arith, is.few);
+    }
 
-  pub walks-off : at < length text → next point (get_or text at 0) ≡ None → false ≡ answer
-  walks-off h e =
-      sym (accepts-stop next ends point (get_or text at 0) (drop (at + 1) text) e)
-      ∙ ap (accepts next ends point) (sym (split h)) ∙ so_far
-
-  pub walks-out : length text ≤ at → ends point ≡ answer
-  walks-out h = ap (accepts next ends point) (sym (drop_all at text h)) ∙ so_far
+-- what they read is what their machine accepts
+pub reads-accepted : (places : List Place) (text : List ℕ) → IsPlaced places → run places 0 text ≡ accepts (next_point places) (is_last places) 0 text
+reads-accepted places text is = sym (accepts-run places 1 0 text is.bytes is.chained (omega arith))

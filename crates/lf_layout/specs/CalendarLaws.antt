@@ -31,9 +31,6 @@ days_of_months-next y (suc m) h = let e : suc m - 1 ≡ m = omega arith in rw e 
 pub month_length-least : (y m : ℕ) → 28 ≤ month_length y m
 month_length-least y m = grind arith
 
-pub month_length-last : (y : ℕ) → month_length y 12 ≡ 31
-month_length-last y = refl
-
 days_of_months-none : (y : ℕ) → days_of_months y 0 ≡ 0
 unfolding days_of_months
 days_of_months-none y = refl

@@ -1,6 +1,6 @@
 -- The places of an offset read the offsets under a day, and never `-0000`.
 use Rattle.std.proofs.Common.{◌≡◌, ℕ, zero, suc, ◌+◌, ◌*◌, ◌/◌, ◌%◌, ◌<◌, ◌≤◌, inl, inr, List, [], ◌∷◌, ◌++◌, Some, Bool, true, false, cond, not, ◌&&◌, ◌==◌, ltb, refl, sym, ap, ◌∙◌, arith, append_assoc}
-use Rattle.std.specs.Prelude.{ℤ, pos, negsuc, neg_ℤ, unsigned_abs}
+use Rattle.std.specs.Prelude.{ℤ, pos, negsuc, unsigned_abs}
 use Rattle.std.proofs.lemmas.Bool.Decides.{nat_tests}
 use Rattle.jiff_core.proofs.SignedLemmas.{signed_arith}
 use Rattle.lf_core.proofs.Accepts.{guarded_some}
@@ -54,10 +54,6 @@ minutes-went : (sign hours minutes to : ℕ) → after_number OffsetMinute (zero
 minutes-went sign hours minutes to h =
     let g = guarded_some (ltb minutes 60 && not ((zero_so_far sign hours == 1) && (minutes == 0))) 0 to h in
     (grind (arith, nat_tests, g.0), λ s. grind (arith, nat_tests, g.0, s), g.1)
-
--- the offset of a sign and a number of minutes
-abbrev pub signed_offset : ℕ → ℕ → ℤ
-signed_offset sign minutes = cond (sign == 1) (neg_ℤ (pos minutes)) (pos minutes)
 
 abbrev Tells : ℕ → ℕ → ℕ → Type 0
 Tells letter sign minutes =

@@ -142,7 +142,7 @@ digit-less c h =
 abbrev Stays : Place → ℕ → ℕ → Type 0
 Stays place c after = (c < 256) × (after < place_exits place)
 
-place-stays : (place : Place) (memory c after : ℕ) → memory < place_memories place → is_byte place ≡ true → after_place place memory c ≡ Some after → Stays place c after
+pub place-stays : (place : Place) (memory c after : ℕ) → memory < place_memories place → is_byte place ≡ true → after_place place memory c ≡ Some after → Stays place c after
 place-stays (Byte byte memories) memory c after h b e =
     let g = guarded_some (c == byte) memory after e in
     (grind (arith, nat_tests, g.0), omega (arith, g.1))
@@ -216,7 +216,7 @@ not-last place places memory h =
     let t : ltb memory (place_memories place) ≡ true = grind (arith, nat_tests) in
     rw t refl
 
-entry-first : (entry : ℕ) (place : Place) (places : List Place) → is_chained entry (place ∷ places) ≡ true → (entry ≤ place_memories place) × (is_chained (place_exits place) places ≡ true)
+pub entry-first : (entry : ℕ) (place : Place) (places : List Place) → is_chained entry (place ∷ places) ≡ true → (entry ≤ place_memories place) × (is_chained (place_exits place) places ≡ true)
 entry-first entry place places h =
     let p = and_parts (leb entry (place_memories place)) (is_chained (place_exits place) places) h in
     (grind (arith, nat_tests, p.0), p.1)

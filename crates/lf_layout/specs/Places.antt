@@ -190,6 +190,12 @@ pub record IsPlaced (places : List Place) : Type 0 where
   pub chained : is_chained 1 places ≡ true
   pub few : point_count places ≤ 300
 
+-- The places may be read from the memory on: it is among those of the first, and they follow one another.
+pub record IsReadableFrom (memory : ℕ) (places : List Place) : Type 0 where
+  pub bytes : all_bytes places ≡ true
+  pub chained : is_chained (memory + 1) places ≡ true
+  pub few : point_count places ≤ 300
+
 -- the places of a year
 abbrev pub year_places : List Place
 year_places = Tens 2 ∷ Ones Century ∷ Tens 6 ∷ Ones YearOfCentury ∷ []

@@ -2,7 +2,8 @@
 
 ghost use Rattle.std.specs.Prelude.{◌≡◌, ◌+◌, ◌<◌, ◌≤◌, Option, IfSome};
 ghost use Rattle.lf_core.specs.Domain.{accepts as accepts_text};
-ghost use Rattle.lf_layout.specs.Places.{IsPlaced, point_count as point_count_of, shifted as shifted_of, next_point as next_point_of, is_last as is_last_of};
+ghost use Rattle.lf_layout.specs.Places.{IsPlaced, IsReadableFrom, point_count as point_count_of, shifted as shifted_of, next_point as next_point_of, is_last as is_last_of};
+ghost use Rattle.lf_layout.specs.PlaceLaws.{run};
 
 use crate::place::Place;
 
@@ -59,17 +60,27 @@ pub fn is_last(places: &[Place], point: u32) -> bool
     is_last(rest, point - memories)
 }
 
-/// Whether the letters lead to the end.
+/// Whether the places read the letters, one each, from the memory on.
+fn reads(places: &[Place], memory: u32, text: &[u8]) -> bool
+    requires { IsReadableFrom memory places.now }
+    ensures { result ≡ run places.now memory text.now }
+{
+    let Some((place, places)) = places.split_first() else {
+        return memory == 0 && text.is_empty();
+    };
+    let Some((letter, text)) = text.split_first() else {
+        return false;
+    };
+    match place.after(memory, *letter) {
+        Some(after) => reads(places, after, text),
+        None => false,
+    }
+}
+
+/// Whether the letters lead to the end, in one walk along the places.
 pub fn accepts(places: &[Place], text: &[u8]) -> bool
     requires { IsPlaced places.now }
     ensures { result ≡ accepts_text (next_point_of places.now) (is_last_of places.now) 0 text.now }
 {
-    let mut point = 0;
-    for letter in text {
-        match next_point(places, point, *letter) {
-            Some(next) => point = next,
-            None => return false,
-        }
-    }
-    is_last(places, point)
+    reads(places, 0, text)
 }

@@ -1,14 +1,15 @@
 -- The moves that end letters, by the last bytes of their words, and by their words of one byte.
-use Rattle.std.proofs.Common.{◌≡◌, ℕ, zero, suc, inl, inr, List, [], ◌∷◌, ◌++◌, length, Option, Bool, true, false, cond, ◌==◌, refl, sym, ap, ◌∙◌, arith, append-nil}
+use Rattle.std.proofs.Common.{◌≡◌, ℕ, zero, suc, inl, inr, List, [], ◌∷◌, ◌++◌, length, Option, Bool, true, false, cond, ◌==◌, ◌&&◌, refl, sym, ap, ◌∙◌, arith, append-nil}
 use Rattle.std.specs.List.{flat_map}
+use Rattle.std.proofs.Math.Bool.{and-false}
 use Rattle.std.proofs.lemmas.Bool.Decides.{nat_tests}
 use Rattle.std.proofs.lemmas.Grind.{flat_map-append}
+use Rattle.std.proofs.lemmas.Bool.{cases_Bool}
 use Rattle.lf_core.specs.declared.marked.Move.{Move}
 use Rattle.lf_code_table.specs.Endings.{last_of, letters_ending}
 use Rattle.lf_code_table.specs.Lone.{is_lone, lone_of}
 use Rattle.lf_code_table.specs.Table.{same_list, same_list-true}
-use Rattle.lf_machine.specs.LetterMoves.{one_letter, letter_moves}
-use Rattle.lf_machine.specs.Unquoted.{bool_cases}
+use Rattle.lf_machine.specs.LetterMoves.{end_move, one_letter, letter_moves}
 
 last-of_append : (read : List ℕ) (byte : ℕ) → last_of (read ++ byte ∷ []) ≡ byte
 last-of_append [] byte = refl
@@ -49,23 +50,44 @@ pub length-none : (xs : List ℕ) → (length xs == 0) ≡ true → xs ≡ []
 length-none [] h = refl
 length-none (x ∷ xs) h = absurd (no-length (length xs) h)
 
+-- a word is the byte if it has one byte, and ends with it
+one-byte : (word : List ℕ) (byte : ℕ) → same_list word (byte ∷ []) ≡ (last_of word == byte) && (length word == 1)
+one-byte [] byte = sym (and-false (0 == byte))
+one-byte (x ∷ []) byte = refl
+one-byte (x ∷ y ∷ word) byte =
+    let long : (length (x ∷ y ∷ word) == 1) ≡ false = grind (arith, nat_tests) in
+    and-false (x == byte) ∙ sym (ap (λ (b : Bool). (last_of (y ∷ word) == byte) && b) long ∙ and-false (last_of (y ∷ word) == byte))
+
 module _ (takes : ℕ → Bool) (word : ℕ → List ℕ) (next : ℕ → Option ℕ) (width : ℕ) (byte : ℕ) where
-  abbrev sole : ℕ → List Move
-  sole = one_letter takes word next 3 width (byte ∷ [])
+  abbrev ended : List ℕ → List Move
+  ended letters = flat_map (end_move next 3 width) (lone_of takes word letters)
 
-  same-lone : (n : ℕ) → same_list (word n) (byte ∷ []) ≡ true → (length (word n) == 1) ≡ true
-  same-lone n h = let e : length (word n) ≡ 1 = ap length (same_list-true (word n) (byte ∷ []) h) in grind (arith, nat_tests, e)
-
-  no-lone : (n : ℕ) (t s l : Bool) → takes n ≡ t → same_list (word n) (byte ∷ []) ≡ s → (length (word n) == 1) ≡ l → cond t l false ≡ false → sole n ≡ []
-  no-lone n true true l a b c d = let e : true ≡ false = sym (same-lone n b) ∙ c ∙ d in cc
-  no-lone n true false l a b c d = rw (a, b) refl
-  no-lone n false s l a b c d = rw a refl
-
-  -- the letters whose words are one byte have all the moves
-  pub lone-moves : (letters : List ℕ) → flat_map sole (lone_of takes word letters) ≡ flat_map sole letters
-  lone-moves [] = refl
-  lone-moves (c ∷ letters) =
-      elim (bool_cases (is_lone takes word c)) [
-        | inl t ↦ rw t (ap (λ (ms : List Move). sole c ++ ms) (lone-moves letters))
-        | inr f ↦ rw f (lone-moves letters ∙ ap (λ (ms : List Move). ms ++ flat_map sole letters) (sym (no-lone c (takes c) (same_list (word c) (byte ∷ [])) (length (word c) == 1) refl refl refl f)))
+  lone-append : (xs ys : List ℕ) → lone_of takes word (xs ++ ys) ≡ lone_of takes word xs ++ lone_of takes word ys
+  lone-append [] ys = refl
+  lone-append (c ∷ xs) ys =
+      elim (cases_Bool (is_lone takes word c)) [
+        | inl t ↦ rw t (ap (λ (zs : List ℕ). c ∷ zs) (lone-append xs ys))
+        | inr f ↦ rw f (lone-append xs ys)
       ]
+
+  ended-append : (xs ys : List ℕ) → ended (xs ++ ys) ≡ ended xs ++ ended ys
+  ended-append xs ys = ap (flat_map (end_move next 3 width)) (lone-append xs ys) ∙ flat_map-append (end_move next 3 width) (lone_of takes word xs) (lone_of takes word ys)
+
+  one-ended : (n : ℕ) (t l k : Bool) → takes n ≡ t → (length (word n) == 1) ≡ k → cond t (cond (l && k) (end_move next 3 width n) []) [] ≡ ended (cond t (cond l (n ∷ []) []) [])
+  one-ended n true true true a c = rw (a, c) (sym (append-nil (end_move next 3 width n)))
+  one-ended n true true false a c = rw (a, c) refl
+  one-ended n true false k a c = refl
+  one-ended n false l k a c = refl
+
+  ended-upto : (n : ℕ) → letter_moves takes word next 3 width (byte ∷ []) n ≡ ended (letters_ending takes word byte n)
+  unfolding letter_moves letters_ending
+  ended-upto zero = refl
+  ended-upto (suc n) =
+      ap (λ (ms : List Move). ms ++ one_letter takes word next 3 width (byte ∷ []) n) (ended-upto n)
+      ∙ ap (λ (b : Bool). ended (letters_ending takes word byte n) ++ cond (takes n) (cond b (end_move next 3 width n) []) []) (one-byte (word n) byte)
+      ∙ ap (λ (ms : List Move). ended (letters_ending takes word byte n) ++ ms) (one-ended n (takes n) (last_of (word n) == byte) (length (word n) == 1) refl refl)
+      ∙ sym (ended-append (letters_ending takes word byte n) (cond (takes n) (cond (last_of (word n) == byte) (n ∷ []) []) []))
+
+  -- the letters whose words are the byte have all the moves
+  pub lone-moves : letter_moves takes word next 3 width (byte ∷ []) 256 ≡ ended (letters_ending takes word byte 256)
+  lone-moves = ended-upto 256

@@ -1,7 +1,6 @@
 pub mod Placed
 pub mod SizeLaws
 pub mod RunLaws
-pub mod Replicas
 pub mod LetterMoveLaws
 pub mod SpotLaws
 pub mod ToldLaws

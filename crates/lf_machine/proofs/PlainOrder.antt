@@ -1,12 +1,13 @@
 -- Of two runs of a slot without quotes the lesser says the lesser.
 use Rattle.std.proofs.Common.{◌≡◌, ℕ, ◌⊎◌, inl, inr, List, [], ◌∷◌, ◌++◌, Some, Bool, true, false, cond, ◌==◌, ◌&&◌, refl, sym, ap, ◌∙◌, arith}
+use Rattle.std.proofs.lemmas.Bool.{cases_Bool}
 use Rattle.lf_escape.specs.Codes.{coded}
 use Rattle.lf_machine.specs.Paths.{Step, IsPath, Before}
 use Rattle.lf_machine.specs.Letters.{At, letter_step, CanStep, AllTaken, letters_run}
 use Rattle.lf_machine.proofs.LetterRuns.{letters-complete}
 use Rattle.lf_machine.proofs.LetterOrder.{letters-order}
 use Rattle.lf_machine.specs.RecordOrder.{IsTextLess}
-use Rattle.lf_machine.specs.Unquoted.{Said, nothing, letters, Within, inside, lone, wrap_first, start_run, dashed, bool_cases, HoldsSaid, said_text, said_run, marks_in}
+use Rattle.lf_machine.specs.Unquoted.{Said, nothing, letters, Within, inside, lone, wrap_first, start_run, dashed, HoldsSaid, said_text, said_run, marks_in}
 use Rattle.lf_machine.proofs.PlainRuns.{spell, spell-letters, dash-step}
 use Rattle.lf_machine.proofs.SlotOrder.{AllHigh, SaidLess, inside-of, same-step, before-wrapped, letters-high}
 use Rattle.lf_machine.specs.SlotMachine.{SlotMachine}
@@ -50,7 +51,7 @@ module _ (sm : SlotMachine)
   from = record { point = sm.first; begun = [] }
 
   no_dash : sm.blank ≡ true → sm.dash ≡ false
-  no_dash h = elim (bool_cases sm.dash) [ inl d ↦ absurd (one d h) | inr d ↦ d ]
+  no_dash h = elim (cases_Bool sm.dash) [ inl d ↦ absurd (one d h) | inr d ↦ d ]
 
   both-dashes : (b d : ℕ) (k l : Step At) → CanStep sm from b k → CanStep sm from d l → (k.mark == 48) ≡ true → k.mark ≡ l.mark → k ≡ l
   both-dashes b d k l p q h e =
@@ -67,7 +68,7 @@ module _ (sm : SlotMachine)
   first-same : (b d : ℕ) (k l : Step At) → CanStep sm from b k → CanStep sm from d l → wrapped k ≡ wrapped l → k ≡ l
   first-same b d k l p q e =
       let m : k.mark ≡ l.mark = ap (λ (x : Step Within). x.mark) e in
-      elim (bool_cases (k.mark == 48)) [
+      elim (cases_Bool (k.mark == 48)) [
         | inl t ↦ both-dashes b d k l p q t m
         | inr t ↦
             let u : (l.mark == 48) ≡ false = ap (λ (n : ℕ). n == 48) (sym m) ∙ t in

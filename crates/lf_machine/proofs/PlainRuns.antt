@@ -1,6 +1,7 @@
 -- The whole runs of a slot without quotes are those of what it says.
 use Rattle.std.proofs.Common.{◌≡◌, ◌≢◌, ℕ, ◌+◌, ◌-◌, inl, inr, List, [], ◌∷◌, ◌++◌, map, Some, Bool, true, false, cond, leb, ◌==◌, ◌&&◌, refl, sym, ap, subst, ◌∙◌, arith}
 use Rattle.std.proofs.lemmas.Bool.Decides.{nat_tests}
+use Rattle.std.proofs.lemmas.Bool.{cases_Bool}
 use Rattle.lf_core.specs.Domain.{accepts}
 use Rattle.lf_core.proofs.Accepts.{accepts-first}
 use Rattle.lf_escape.specs.Codes.{coded}
@@ -8,7 +9,7 @@ use Rattle.lf_machine.specs.Paths.{Step, IsPath, last}
 use Rattle.lf_machine.specs.Parts.{IsWhole}
 use Rattle.lf_machine.specs.Letters.{At, letter_step, CanStep, IsDone, AllTaken, word_run, letters_run}
 use Rattle.lf_machine.proofs.LetterRuns.{letters_run-first, Spells, letters-sound, letters-complete}
-use Rattle.lf_machine.specs.Unquoted.{Said, nothing, letters, Within, inside, missing, lone, wrap, marks_in, dashed, bool_cases, wrap_first as wrap_first_of, SlotEnter as SlotEnter_of, SlotCan as SlotCan_of, SlotDone as SlotDone_of, SlotEmpty as SlotEmpty_of, HoldsSaid as HoldsSaid_of, said_text as said_text_of, start_run as start_run_of, said_run as said_run_of}
+use Rattle.lf_machine.specs.Unquoted.{Said, nothing, letters, Within, inside, missing, lone, wrap, marks_in, dashed, wrap_first as wrap_first_of, SlotEnter as SlotEnter_of, SlotCan as SlotCan_of, SlotDone as SlotDone_of, SlotEmpty as SlotEmpty_of, HoldsSaid as HoldsSaid_of, said_text as said_text_of, start_run as start_run_of, said_run as said_run_of}
 use Rattle.lf_machine.specs.SlotMachine.{SlotMachine}
 
 pub wrap-marks : (ks : List (Step At)) → marks_in (map wrap ks) ≡ marks_in ks
@@ -149,7 +150,7 @@ module _ (sm : SlotMachine) where
 
   module _ (dash_word : sm.takes 45 ≡ true → sm.word 45 ≡ 45 ∷ []) (one : sm.dash ≡ true → sm.blank ≡ true → ⊥) (blank_apart : sm.blank ≡ true → sm.apart_blank ≡ true) where
     blank-no_dash : sm.blank ≡ true → sm.dash ≡ false
-    blank-no_dash h = elim (bool_cases sm.dash) [ inl d ↦ absurd (one d h) | inr d ↦ d ]
+    blank-no_dash h = elim (cases_Bool sm.dash) [ inl d ↦ absurd (one d h) | inr d ↦ d ]
 
     -- the run of a lone dash ends with its mark
     lone-run : (cs : List ℕ) (k : Step At) (ks : List (Step At)) → AllTaken sm cs → accepts sm.next sm.ends sm.first cs ≡ true → k ∷ ks ≡ letters_run sm sm.first cs → cs ≡ 45 ∷ [] → (k.mark ≡ 48) × (ks ≡ [])
@@ -209,7 +210,7 @@ module _ (sm : SlotMachine) where
                 ap (λ (x : Step Within). x ∷ run) d.2 ∙ ap (λ (x : List (Step Within)). dashed ∷ x) e.1 ∙ ap (λ (x : Bool). cond {A = List (Step Within)} x (dashed ∷ []) []) (sym d.0),
               )
           | inr k ↦
-              elim (bool_cases (sm.apart_dash && k.0.mark == 48)) [
+              elim (cases_Bool (sm.apart_dash && k.0.mark == 48)) [
                 | inl t ↦
                     let q : m.to ≡ lone = ap (λ (x : Step Within). x.to) k.2 ∙ ap (λ (x : Bool). cond {A = Within} x lone (inside k.0.to)) t in
                     let p : IsPath SlotCan lone line run = rw q at h.1 in
@@ -242,11 +243,11 @@ module _ (sm : SlotMachine) where
         IsWhole SlotEnter SlotCan SlotDone SlotEmpty line (start_run ks)
     letters-whole cs [] [] h e p d =
         let z : [] ≡ cs = ap (λ (x : List (Step At)). spell (marks_in x)) e ∙ spell-letters cs sm.first h.0 h.1 in
-        inr (elim (bool_cases sm.apart_blank) [ inl t ↦ absurd (h.3 t (sym z)) | inr t ↦ t ], d.1)
+        inr (elim (cases_Bool sm.apart_blank) [ inl t ↦ absurd (h.3 t (sym z)) | inr t ↦ t ], d.1)
     letters-whole cs [] (k ∷ ks) h e p d = absurd p
     letters-whole cs (b ∷ line) [] h e p d = absurd p
     letters-whole cs (b ∷ line) (k ∷ ks) h e p d =
-        elim (bool_cases (sm.apart_dash && k.mark == 48)) [
+        elim (cases_Bool (sm.apart_dash && k.mark == 48)) [
           | inl t ↦
               let q : (wrap_first k).to ≡ lone = ap (λ (x : Bool). cond {A = Within} x lone (inside k.to)) t in
               let ds = dash-step (record { point = sm.first; begun = [] }) b k p.0 (and-right sm.apart_dash (k.mark == 48) t) in

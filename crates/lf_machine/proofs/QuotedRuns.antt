@@ -1,11 +1,12 @@
 -- The whole runs of a slot with quotes are those of what it says.
 use Rattle.std.proofs.Common.{◌≡◌, ℕ, ◌-◌, ◌⊎◌, inl, inr, List, [], ◌∷◌, ◌++◌, map, Bool, true, false, cond, leb, refl, sym, ap, subst, ◌∙◌, arith}
+use Rattle.std.proofs.lemmas.Bool.{cases_Bool}
 use Rattle.lf_escape.specs.Codes.{coded}
 use Rattle.lf_machine.specs.Paths.{Step, IsPath, last}
 use Rattle.lf_machine.specs.Parts.{IsWhole}
 use Rattle.lf_machine.specs.Letters.{At, CanStep, IsDone, letters_run}
 use Rattle.lf_machine.proofs.LetterRuns.{letters-sound, letters-complete}
-use Rattle.lf_machine.specs.Unquoted.{Said, nothing, letters, Within, inside, missing, opened, closed, wrap, dashed, marks_in, bool_cases}
+use Rattle.lf_machine.specs.Unquoted.{Said, nothing, letters, Within, inside, missing, opened, closed, wrap, dashed, marks_in}
 use Rattle.lf_machine.proofs.PlainRuns.{spell, spell-letters, not-empty, true-false}
 use Rattle.lf_machine.specs.Quoted.{opening, closing, BareQuotes as BareQuotes_of, QuotedEnter as QuotedEnter_of, QuotedCan as QuotedCan_of, QuotedDone as QuotedDone_of, HoldsQuoted as HoldsQuoted_of, quoted_text as quoted_text_of, quoted_run as quoted_run_of}
 use Rattle.lf_machine.specs.SlotMachine.{SlotMachine}
@@ -102,7 +103,7 @@ module _ (sm : SlotMachine) where
 
   module _ (one : sm.dash ≡ true → sm.blank ≡ true → ⊥) (blank_apart : sm.blank ≡ true → sm.apart_blank ≡ true) where
     no_dash : sm.blank ≡ true → sm.dash ≡ false
-    no_dash h = elim (bool_cases sm.dash) [ inl d ↦ absurd (one d h) | inr d ↦ d ]
+    no_dash h = elim (cases_Bool sm.dash) [ inl d ↦ absurd (one d h) | inr d ↦ d ]
 
     abbrev Found : List ℕ → List (Step Within) → Type 0
     Found line run = (v : Said) × HoldsQuoted v × (line ≡ quoted_text v) × (run ≡ quoted_run v)
@@ -164,7 +165,7 @@ module _ (sm : SlotMachine) where
         IsWhole QuotedEnter QuotedCan QuotedDone ⊥ (34 ∷ (body ++ 34 ∷ [])) (opening ∷ (map wrap ks ++ closing ∷ []))
     open-letters cs [] [] h e p d =
         let z : [] ≡ cs = ap (λ (x : List (Step At)). spell (marks_in x)) e ∙ spell-letters sm cs sm.first h.0 h.1 in
-        let a : sm.apart_blank ≡ false = elim (bool_cases sm.apart_blank) [ inl t ↦ absurd (h.3 t (sym z)) | inr t ↦ t ] in
+        let a : sm.apart_blank ≡ false = elim (cases_Bool sm.apart_blank) [ inl t ↦ absurd (h.3 t (sym z)) | inr t ↦ t ] in
         (inl (refl, refl), (inr (inr (a, d.1), refl, refl), tt), tt)
     open-letters cs [] (k ∷ ks) h e p d = absurd p
     open-letters cs (b ∷ body) [] h e p d = absurd p

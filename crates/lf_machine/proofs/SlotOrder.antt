@@ -1,5 +1,6 @@
 -- Of two runs of a slot with quotes the lesser says the lesser.
 use Rattle.std.proofs.Common.{◌≡◌, ℕ, ◌<◌, ◌≤◌, ◌⊎◌, inl, inr, List, [], ◌∷◌, ◌++◌, map, Bool, true, false, cond, refl, sym, ap, ◌∙◌, arith, append_assoc}
+use Rattle.std.proofs.lemmas.Bool.{cases_Bool}
 use Rattle.lf_core.specs.Domain.{accepts}
 use Rattle.lf_core.proofs.Accepts.{accepts-first}
 use Rattle.lf_escape.specs.Codes.{coded}
@@ -8,7 +9,7 @@ use Rattle.lf_machine.specs.Letters.{At, AllTaken, word_run, letters_run}
 use Rattle.lf_machine.proofs.LetterRuns.{letters_run-first}
 use Rattle.lf_machine.proofs.LetterOrder.{letters-order}
 use Rattle.lf_machine.specs.RecordOrder.{IsTextLess}
-use Rattle.lf_machine.specs.Unquoted.{Said, nothing, letters, Within, inside, missing, lone, opened, closed, left, wrap, bool_cases}
+use Rattle.lf_machine.specs.Unquoted.{Said, nothing, letters, Within, inside, missing, lone, opened, closed, left, wrap}
 use Rattle.lf_machine.specs.Quoted.{opening, closing, HoldsQuoted, quoted_text, quoted_run}
 use Rattle.lf_machine.specs.SlotMachine.{SlotMachine}
 
@@ -116,7 +117,7 @@ module _ (sm : SlotMachine) where
     q_run = quoted_run sm
 
     no_dash : sm.blank ≡ true → sm.dash ≡ false
-    no_dash h = elim (bool_cases sm.dash) [ inl d ↦ absurd (one d h) | inr d ↦ d ]
+    no_dash h = elim (cases_Bool sm.dash) [ inl d ↦ absurd (one d h) | inr d ↦ d ]
 
     never-before : (r : List (Step Within)) → Before r r → ⊥
     never-before [] h = h

@@ -2,6 +2,7 @@
 use Rattle.std.proofs.Common.{◌≡◌, ◌≢◌, ℕ, ◌+◌, ◌-◌, ◌<◌, ◌⊎◌, inl, inr, List, [], ◌∷◌, length, Option, None, Some, Bool, true, false, cond, map, leb, nat_le, ◌==◌, ◌&&◌, refl, sym, ap, ◌∙◌, arith}
 use Rattle.std.specs.List.{cons_option}
 use Rattle.std.proofs.lemmas.Bool.Decides.{nat_tests}
+use Rattle.std.proofs.lemmas.Bool.{cases_Bool}
 use Rattle.lf_core.specs.Domain.{IsPlainOf, IsPlainOfNone}
 use Rattle.lf_core.specs.declared.marked.Move.{Move}
 use Rattle.lf_core.specs.declared.values.Value.{Value}
@@ -23,7 +24,7 @@ use Rattle.lf_machine.proofs.PieceRuns.{one-absence, blank-apart, missing-said, 
 use Rattle.lf_machine.specs.Quoted.{opening, closing}
 use Rattle.lf_machine.proofs.QuotedRuns.{run-quoted}
 use Rattle.lf_machine.proofs.SlotOrder.{AllLow, AllHigh, letters-high}
-use Rattle.lf_machine.specs.Unquoted.{letters, Within, dashed, marks_in, bool_cases}
+use Rattle.lf_machine.specs.Unquoted.{letters, Within, dashed, marks_in}
 use Rattle.lf_machine.proofs.PlainRuns.{spell, start-marks, run-letters, and-left, and-right}
 
 -- whether the first of the marks is that of the dash of absence
@@ -136,7 +137,7 @@ letter-told : (above mark k : ℕ) → mark ≡ above + k → k < 259 → told_l
 letter-told above mark k e l =
     let z : mark - above ≡ k = omega (arith, e) in
     let t : nat_le k 258 ≡ true = grind (arith, nat_tests) in
-    elim (bool_cases (leb 3 k)) [
+    elim (cases_Bool (leb 3 k)) [
       | inl b ↦ rw (z, t, b) refl
       | inr b ↦ rw (z, t, b) refl
     ]

@@ -5,7 +5,6 @@ use Rattle.lf_format.specs.Kinds.{kind_machine}
 use Rattle.lf_format.specs.declared.kind.Coding.{Coding}
 use Rattle.lf_format.specs.declared.slot.Slot.{Slot as ASlot}
 use Rattle.lf_machine.specs.SlotMoves.{at_moves, at_root, at_state}
-use Rattle.lf_machine.specs.FramedNumbers.{closing_moves}
 use Rattle.lf_machine.specs.Pieces.{slot_machine}
 use Rattle.lf_code_table.specs.Table.{table_of}
 
@@ -16,10 +15,6 @@ slot_top s = (kind_machine s.kind).count * length (table_of s.code)
 -- the moves from a point of the domain's machine and what was read of a word
 abbrev pub slot_steps : ASlot → ℕ → List ℕ → ℕ → List Move
 slot_steps s q read byte = at_moves (slot_machine s.kind s.code s.absent s.present) q read byte
-
--- the same, with the closing quote where it may stand
-abbrev pub slot_closing : ASlot → Bool → ℕ → List ℕ → ℕ → List Move
-slot_closing s may q read byte = closing_moves (slot_machine s.kind s.code s.absent s.present) may q read byte
 
 -- whether the letters may end at a point
 abbrev pub slot_root : ASlot → ℕ → Bool

@@ -11,10 +11,14 @@ abbrev pub letter_move : ℕ → ℕ → ℕ → Option ℕ → List Move
 letter_move base width letter None = []
 letter_move base width letter (Some after) = record { mark = base + letter; to = after * width } ∷ []
 
+-- the move that ends a letter, by the point that the domain's machine has after each
+abbrev pub end_move : (ℕ → Option ℕ) → ℕ → ℕ → ℕ → List Move
+end_move next base width letter = letter_move base width letter (next letter)
+
 -- the move that ends a letter, where the text is its word
 abbrev pub one_letter : (ℕ → Bool) → (ℕ → List ℕ) → (ℕ → Option ℕ) → ℕ → ℕ → List ℕ → ℕ → List Move
 one_letter takes word next base width text letter =
-    cond (takes letter) (cond (same_list (word letter) text) (letter_move base width letter (next letter)) []) []
+    cond (takes letter) (cond (same_list (word letter) text) (end_move next base width letter) []) []
 
 -- the moves that end the letters below a bound
 unfoldable pub letter_moves : (ℕ → Bool) → (ℕ → List ℕ) → (ℕ → Option ℕ) → ℕ → ℕ → List ℕ → ℕ → List Move

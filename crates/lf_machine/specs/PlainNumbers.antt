@@ -2,13 +2,14 @@
 use Rattle.std.proofs.Common.{◌≡◌, ℕ, ◌+◌, ◌*◌, ◌/◌, ◌%◌, ◌<◌, ◌≤◌, ◌⊎◌, inl, inr, List, [], ◌∷◌, ◌++◌, length, get_or, map, Option, None, Some, Bool, true, false, cond, not, ltb, ◌==◌, ◌&&◌, ◌||◌, refl, sym, ap, ◌∙◌, arith, Contains}
 use Rattle.std.proofs.lemmas.Bool.Decides.{nat_tests, leb_tells}
 use Rattle.std.proofs.lemmas.List.Elements.{Contains-append_cases, Contains-append_left, Contains-append_right}
+use Rattle.std.proofs.lemmas.Bool.{cases_Bool}
 use Rattle.lf_core.specs.declared.marked.Move.{Move}
 use Rattle.lf_machine.specs.Paths.{Step}
 use Rattle.lf_machine.specs.Letters.{At, CanStep}
 use Rattle.lf_machine.specs.Lists.{none-there, one-there, there-one, map-from, map-into, Rises, rises-append, rises-more}
 use Rattle.lf_machine.specs.Numbered.{numbered}
 use Rattle.lf_machine.specs.RowNumbers.{cond-there, there-cond, and-both, both-and}
-use Rattle.lf_machine.specs.Unquoted.{Within, inside, missing, lone, opened, closed, left, wrap, dashed, bool_cases, SlotEnter, SlotCan, SlotDone, SlotEmpty, wrap_first}
+use Rattle.lf_machine.specs.Unquoted.{Within, inside, missing, lone, opened, closed, left, wrap, dashed, SlotEnter, SlotCan, SlotDone, SlotEmpty, wrap_first}
 use Rattle.lf_machine.specs.SlotMoves.{IsLaid, at_moves, at_number, ValidAt, at_state, at-rises, at-range, at-back, at-first, at-goes, at-gone, at_root, root-done, done-root}
 use Rattle.lf_machine.specs.SlotMachine.{SlotMachine}
 
@@ -201,7 +202,7 @@ module _ (sm : SlotMachine) where
         elim (leb_tells top n) [
           | inl k ↦
               let t = less-false n top k.1 in
-              elim (bool_cases (n == top)) [
+              elim (cases_Bool (n == top)) [
                 | inl u ↦ let c : Contains [] m = rw (t, u) at h in absurd (none-there m c)
                 | inr u ↦
                     let c : Contains (lone_moves (sm.next sm.first 45) byte) m = rw (t, u) at h in
@@ -226,7 +227,7 @@ module _ (sm : SlotMachine) where
         elim (leb_tells top n) [
           | inl k ↦
               let t = less-false n top k.1 in
-              elim (bool_cases (n == top)) [
+              elim (cases_Bool (n == top)) [
                 | inl u ↦ let c : Goes missing byte a = rw (t, u) at h in absurd c
                 | inr u ↦
                     let c : Goes lone byte a = rw (t, u) at h in
@@ -265,7 +266,7 @@ module _ (sm : SlotMachine) where
         elim (leb_tells top n) [
           | inl k ↦
               let t = less-false n top k.1 in
-              elim (bool_cases (n == top)) [
+              elim (cases_Bool (n == top)) [
                 | inl u ↦ rw (t, u) refl
                 | inr u ↦ let c : Stops lone = rw (t, u) at h in absurd c
               ]

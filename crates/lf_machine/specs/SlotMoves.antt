@@ -2,6 +2,7 @@
 use Rattle.std.proofs.Common.{◌≡◌, ℕ, zero, suc, ◌+◌, ◌*◌, ◌/◌, ◌%◌, ◌<◌, ◌≤◌, ◌⊎◌, inl, inr, List, [], ◌∷◌, ◌++◌, length, get_or, Option, None, Some, Bool, true, false, cond, ◌&&◌, refl, sym, ap, ◌∙◌, arith, append_assoc, Contains}
 use Rattle.std.proofs.lemmas.Nat.{div-mul-add, mod-mul-add, div_below, row_fits}
 use Rattle.std.proofs.lemmas.List.Elements.{Contains-append_cases, Contains-append_left, Contains-append_right}
+use Rattle.std.proofs.lemmas.Bool.{cases_Bool}
 use Rattle.lf_core.specs.declared.marked.Move.{Move}
 use Rattle.lf_machine.specs.Paths.{Step}
 use Rattle.lf_machine.specs.Letters.{At, inner, letter_step, CanStep, IsDone}
@@ -10,7 +11,6 @@ use Rattle.lf_code_table.specs.Table.{index_of, same_list}
 use Rattle.lf_machine.specs.LetterMoves.{letter_moves, one_letter, letter_move, letter-moves, letter-moved}
 use Rattle.lf_code_table.specs.Prefixes.{Has, index-there, IsFront}
 use Rattle.lf_machine.specs.Numbered.{numbered}
-use Rattle.lf_machine.specs.Unquoted.{bool_cases}
 use Rattle.lf_machine.specs.SlotMachine.{SlotMachine}
 
 pub option_cases : {A : Type 0} (o : Option A) → (o ≡ None) ⊎ ((a : A) × (o ≡ Some a))
@@ -174,7 +174,7 @@ module _ (sm : SlotMachine) where
         ]
 
     pub root-done : (s : At) → at_root s ≡ true → IsDone sm s
-    root-done s h = elim (bool_cases (is_nil s.begun)) [
+    root-done s h = elim (cases_Bool (is_nil s.begun)) [
       | inl t ↦ let g : sm.ends s.point ≡ true = rw t at h in (nil-is s.begun t, g)
       | inr t ↦ let g : false ≡ true = rw t at h in cc
     ]

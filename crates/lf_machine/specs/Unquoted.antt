@@ -1,5 +1,5 @@
 -- The states and steps of a slot without quotes.
-use Rattle.std.proofs.Common.{◌≡◌, ◌≢◌, ℕ, ◌⊎◌, inl, inr, List, [], ◌∷◌, map, Some, Bool, true, false, cond, ◌==◌, ◌&&◌, refl}
+use Rattle.std.proofs.Common.{◌≡◌, ◌≢◌, ℕ, ◌⊎◌, List, [], ◌∷◌, map, Some, true, false, cond, ◌==◌, ◌&&◌}
 use Rattle.lf_core.specs.Domain.{accepts}
 use Rattle.lf_escape.specs.Codes.{coded}
 use Rattle.lf_machine.specs.Paths.{Step}
@@ -33,10 +33,6 @@ marks_in (m ∷ run) = m.mark ∷ marks_in run
 -- the step of the dash of absence
 abbrev pub dashed : Step Within
 dashed = record { mark = 1; to = missing }
-
-pub bool_cases : (b : Bool) → (b ≡ true) ⊎ (b ≡ false)
-bool_cases true = inl refl
-bool_cases false = inr refl
 
 module _ (sm : SlotMachine) where
   -- the same for the first step: a dash may have to go on

@@ -101,14 +101,14 @@ impl FormatMachine {
             return push_entry(self.parts.as_slice(), 1, byte, into);
         }
         let spot = self.spot(point);
-        push_at(self.parts_from(spot.part), spot.base, point, byte, into)
+        push_at(self.parts_from(spot.part), spot, point, byte, into)
     }
 
     /// The spot of the point.
     fn spot(&self, point: u32) -> Spot
         requires least { 1 ≤ point }
         requires most { point < (line_machine self.now).count }
-        ensures { IsSpotOf self.now 1 point result.part result.base }
+        ensures { IsSpotOf self.now 1 point result.part result.base result.done }
     {
         self.spots[point as usize - 1]
     }
@@ -171,6 +171,6 @@ impl Marked for FormatMachine {
             return all_empty(self.parts.as_slice());
         }
         let spot = self.spot(point);
-        done_at(self.parts_from(spot.part), spot.base, point)
+        done_at(self.parts_from(spot.part), spot, point)
     }
 }

@@ -66,12 +66,12 @@ impl Place {
 
 impl Aim {
     /// Adds the move.
-    pub fn put(self, mark: u32, to: u32, into: &mut Moves) -> Result<(), OutOfMemory>
-        requires near { IsNear self.place }
+    pub fn put(&self, mark: u32, to: u32, into: &mut Moves) -> Result<(), OutOfMemory>
+        requires near { IsNear self.now.place }
         requires few { mark ≤ 259 }
         requires low { to ≤ 2 ^ 20 }
-        requires lone { self.lone ≤ 2 ^ 20 }
-        ensures ok { OnOk result (into.new.items ≡ into.old.items ++ map (aimed self) (one_move mark to)) }
+        requires lone { self.now.lone ≤ 2 ^ 20 }
+        ensures ok { OnOk result (into.new.items ≡ into.old.items ++ map (aimed self.now) (one_move mark to)) }
     {
         let to = if self.apart && mark == 48 {
             self.lone

@@ -1,8 +1,10 @@
 ghost use Rattle.std.specs.Prelude.{◌≡◌, ◌+◌, ◌<◌, ◌≤◌, ◌^◌, ◌++◌, OnOk, length};
 ghost use Rattle.lf_machine.specs.LineMachine.{line_points, line_marks, line_enter, line_moves, line_empty, line_done};
+ghost use Rattle.lf_machine.specs.Spots.{IsOfFirst};
 
 use crate::piece_part::PiecePart;
 use crate::place::{Moves, Place};
+use crate::spots::Spot;
 use lf_core::OutOfMemory;
 
 /// How many marks the moves of a piece have.
@@ -55,35 +57,31 @@ pub fn push_entry(
     }
 }
 
-/// Adds the moves at a point of the parts, whose points begin at the base.
+/// Adds the moves at a point of the first part.
 pub fn push_at(
     parts: &[PiecePart],
-    base: u32,
+    spot: Spot,
     point: u32,
     byte: u8,
     into: &mut Moves,
 ) -> Result<(), OutOfMemory>
     requires few { length parts.now ≤ 2 ^ 12 }
-    requires points { base + line_points parts.now ≤ 2 ^ 20 }
-    requires after { base ≤ point }
-    ensures ok { OnOk result (into.new.items ≡ into.old.items ++ line_moves parts.now base point byte) }
+    requires points { spot.base + line_points parts.now ≤ 2 ^ 20 }
+    requires first { IsOfFirst parts.now spot.base point spot.done }
+    ensures ok { OnOk result (into.new.items ≡ into.old.items ++ line_moves parts.now spot.base point byte) }
 {
     match parts.split_first() {
         None => Ok(()),
         Some((part, rest)) => {
-            let end = base + part.points();
-            if end <= point {
-                return push_at(rest, end, point, byte, into);
-            }
             let place = Place {
                 above: marks_of(rest),
-                base,
+                base: spot.base,
             };
-            if part.is_done(point - base) {
-                push_entry(rest, end, byte, into)?;
-                return part.push_moves(point - base, byte, place, into);
+            if spot.done {
+                push_entry(rest, spot.base + part.points(), byte, into)?;
+                return part.push_moves(point - spot.base, byte, place, into);
             }
-            part.push_moves(point - base, byte, place, into)
+            part.push_moves(point - spot.base, byte, place, into)
         }
     }
 }
@@ -98,20 +96,13 @@ pub fn all_empty(parts: &[PiecePart]) -> bool
     }
 }
 
-/// Whether the line may stop at a point of the parts, whose points begin at the base.
-pub fn done_at(parts: &[PiecePart], base: u32, point: u32) -> bool
-    requires points { base + line_points parts.now ≤ 2 ^ 20 }
-    requires after { base ≤ point }
-    ensures { result ≡ line_done parts.now base point }
+/// Whether the line may stop at a point of the first part.
+pub fn done_at(parts: &[PiecePart], spot: Spot, _point: u32) -> bool
+    requires { IsOfFirst parts.now spot.base _point spot.done }
+    ensures { result ≡ line_done parts.now spot.base _point }
 {
     match parts.split_first() {
         None => false,
-        Some((part, rest)) => {
-            let end = base + part.points();
-            if end <= point {
-                return done_at(rest, end, point);
-            }
-            part.is_done(point - base) && all_empty(rest)
-        }
+        Some((_, rest)) => spot.done && all_empty(rest),
     }
 }

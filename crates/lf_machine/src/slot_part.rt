@@ -3,13 +3,13 @@ ghost use Rattle.std.specs.List.{flat_map};
 ghost use Rattle.std.specs.Option.{ForSome};
 ghost use Rattle.lf_format.specs.Codings.{coding_takes, coding_word};
 ghost use Rattle.lf_format.specs.Kinds.{kind_machine};
-ghost use Rattle.lf_machine.specs.Laid.{slot_steps, slot_top, slot_closing, slot_root};
+ghost use Rattle.lf_machine.specs.Laid.{slot_steps, slot_top, slot_root};
 ghost use Rattle.lf_machine.specs.PieceNumbers.{slot_count, slot_enters, slot_moves, slot_is_done, slot_is_empty, slot_bare};
 ghost use Rattle.lf_code_table.specs.Table.{table_of, index_of};
 ghost use Rattle.lf_machine.specs.Pieces.{is_one, is_blank, dash_of, blank_of};
 ghost use Rattle.lf_machine.specs.Places.{IsNear, placed, aimed, one_move};
 ghost use Rattle.lf_machine.specs.SlotMoves.{is_nil, inner_move};
-ghost use Rattle.lf_machine.specs.LetterMoves.{one_letter};
+ghost use Rattle.lf_machine.specs.LetterMoves.{one_letter, end_move};
 
 use crate::place::{Aim, Moves, Place};
 use lf_code_table::{CodeTable, is_word};
@@ -126,7 +126,7 @@ impl SlotPart {
             apart: is_one_dash(self.slot.absent),
             lone: self.top + 1,
         };
-        self.push_steps(&[], byte, self.start(), first, into)?;
+        self.push_steps(&[], byte, self.start(), &first, into)?;
         Ok(())
     }
 
@@ -160,14 +160,14 @@ impl SlotPart {
     {
         if point < self.top {
             let state = self.state(point);
-            return self.push_steps(self.read_at(point), byte, state, place.aim(), into);
+            return self.push_steps(self.read_at(point), byte, state, &place.aim(), into);
         }
         if point == self.top {
             return Ok(());
         }
         match self.step(self.start(), b'-') {
             None => Ok(()),
-            Some(after) => self.push_steps(&[], byte, after, place.aim(), into),
+            Some(after) => self.push_steps(&[], byte, after, &place.aim(), into),
         }
     }
 
@@ -182,20 +182,29 @@ impl SlotPart {
         ensures ok { OnOk result (into.new.items ≡ into.old.items ++ map (placed place) (slot_moves true self.now point byte)) }
     {
         if point < self.top {
-            let may_close = self.is_root(point);
+            let closes = self.closes(point, byte);
             let state = self.state(point);
-            return self.push_closing(may_close, state, self.read_at(point), byte, place, into);
+            return self.push_closing(closes, state, self.read_at(point), byte, place, into);
         }
         if point == self.top + 1 {
-            return self.push_closing(self.is_bare(), self.start(), &[], byte, place, into);
+            let closes = (byte == b'"') & self.is_bare();
+            return self.push_closing(closes, self.start(), &[], byte, place, into);
         }
         Ok(())
     }
 
-    /// Adds the closing quote, where it may stand, and the moves by a letter's byte.
+    /// Whether the byte closes the quotes at a point among letters.
+    fn closes(&self, point: u32, byte: u8) -> bool
+        requires { point < slot_top self.now }
+        ensures { result ≡ (byte == 34) && slot_root self.now point }
+    {
+        byte == b'"' && self.is_root(point)
+    }
+
+    /// Adds the closing quote, where the byte is one, and the moves by a letter's byte.
     fn push_closing(
         &self,
-        may_close: bool,
+        closes: bool,
         state: u32,
         read: &[u8],
         byte: u8,
@@ -204,10 +213,10 @@ impl SlotPart {
     ) -> Result<(), OutOfMemory>
         requires among { state < (kind_machine self.now.kind).count }
         requires near { IsNear place }
-        ensures ok { OnOk result (into.new.items ≡ into.old.items ++ map (placed place) (slot_closing self.now may_close state read.now byte)) }
+        ensures ok { OnOk result (into.new.items ≡ into.old.items ++ map (placed place) (cond closes (one_move 1 (slot_top self.now + 2)) [] ++ slot_steps self.now state read.now byte)) }
     {
-        place.put_if((byte == b'"') & may_close, 1, self.top + 2, into)?;
-        self.push_steps(read, byte, state, place.aim(), into)?;
+        place.put_if(closes, 1, self.top + 2, into)?;
+        self.push_steps(read, byte, state, &place.aim(), into)?;
         Ok(())
     }
 
@@ -217,17 +226,17 @@ impl SlotPart {
         read: &[u8],
         byte: u8,
         state: u32,
-        aim: Aim,
+        aim: &Aim,
         into: &mut Moves,
     ) -> Result<(), OutOfMemory>
         requires among { state < (kind_machine self.now.kind).count }
-        requires near { IsNear aim.place }
-        requires lone { aim.lone ≤ 2 ^ 20 }
-        ensures ok { OnOk result (into.new.items ≡ into.old.items ++ map (aimed aim) (slot_steps self.now state read.now byte)) }
+        requires near { IsNear aim.now.place }
+        requires lone { aim.now.lone ≤ 2 ^ 20 }
+        ensures ok { OnOk result (into.new.items ≡ into.old.items ++ map (aimed aim.now) (slot_steps self.now state read.now byte)) }
     {
         self.push_inner(read, byte, state, aim, into)?;
         if read.is_empty() {
-            self.push_letters(self.table.lone(byte), read, byte, state, aim, into)?;
+            self.push_ends(self.table.lone(byte), state, aim, into)?;
             return Ok(());
         }
         self.push_letters(self.table.ending(byte), read, byte, state, aim, into)?;
@@ -240,13 +249,13 @@ impl SlotPart {
         read: &[u8],
         byte: u8,
         state: u32,
-        aim: Aim,
+        aim: &Aim,
         into: &mut Moves,
     ) -> Result<(), OutOfMemory>
         requires among { state < (kind_machine self.now.kind).count }
-        requires near { IsNear aim.place }
-        requires lone { aim.lone ≤ 2 ^ 20 }
-        ensures ok { OnOk result (into.new.items ≡ into.old.items ++ map (aimed aim) (inner_move (length (table_of self.now.code)) state (index_of (table_of self.now.code) (read.now ++ byte ∷ [])))) }
+        requires near { IsNear aim.now.place }
+        requires lone { aim.now.lone ≤ 2 ^ 20 }
+        ensures ok { OnOk result (into.new.items ≡ into.old.items ++ map (aimed aim.now) (inner_move (length (table_of self.now.code)) state (index_of (table_of self.now.code) (read.now ++ byte ∷ [])))) }
     {
         match self.table.number_of(read, byte) {
             None => Ok(()),
@@ -261,13 +270,13 @@ impl SlotPart {
         read: &[u8],
         byte: u8,
         state: u32,
-        aim: Aim,
+        aim: &Aim,
         into: &mut Moves,
     ) -> Result<(), OutOfMemory>
         requires among { state < (kind_machine self.now.kind).count }
-        requires near { IsNear aim.place }
-        requires lone { aim.lone ≤ 2 ^ 20 }
-        ensures ok { OnOk result (into.new.items ≡ into.old.items ++ map (aimed aim) (flat_map (one_letter (coding_takes self.now.code) (coding_word self.now.code) ((kind_machine self.now.kind).next state) 3 (length (table_of self.now.code)) (read.now ++ byte ∷ [])) letters.now)) }
+        requires near { IsNear aim.now.place }
+        requires lone { aim.now.lone ≤ 2 ^ 20 }
+        ensures ok { OnOk result (into.new.items ≡ into.old.items ++ map (aimed aim.now) (flat_map (one_letter (coding_takes self.now.code) (coding_word self.now.code) ((kind_machine self.now.kind).next state) 3 (length (table_of self.now.code)) (read.now ++ byte ∷ [])) letters.now)) }
     {
         match letters.split_first() {
             None => Ok(()),
@@ -285,13 +294,13 @@ impl SlotPart {
         read: &[u8],
         byte: u8,
         state: u32,
-        aim: Aim,
+        aim: &Aim,
         into: &mut Moves,
     ) -> Result<(), OutOfMemory>
         requires among { state < (kind_machine self.now.kind).count }
-        requires near { IsNear aim.place }
-        requires lone { aim.lone ≤ 2 ^ 20 }
-        ensures ok { OnOk result (into.new.items ≡ into.old.items ++ map (aimed aim) (one_letter (coding_takes self.now.code) (coding_word self.now.code) ((kind_machine self.now.kind).next state) 3 (length (table_of self.now.code)) (read.now ++ byte ∷ []) letter)) }
+        requires near { IsNear aim.now.place }
+        requires lone { aim.now.lone ≤ 2 ^ 20 }
+        ensures ok { OnOk result (into.new.items ≡ into.old.items ++ map (aimed aim.now) (one_letter (coding_takes self.now.code) (coding_word self.now.code) ((kind_machine self.now.kind).next state) 3 (length (table_of self.now.code)) (read.now ++ byte ∷ []) letter)) }
     {
         if !self.slot.code.takes(letter) {
             return Ok(());
@@ -299,6 +308,44 @@ impl SlotPart {
         if !is_word(self.slot.code.word_of(letter).as_slice(), read, byte) {
             return Ok(());
         }
+        self.push_end(letter, state, aim, into)
+    }
+
+    /// Adds the moves that end the letters, whose words were read.
+    fn push_ends(
+        &self,
+        letters: &[u8],
+        state: u32,
+        aim: &Aim,
+        into: &mut Moves,
+    ) -> Result<(), OutOfMemory>
+        requires among { state < (kind_machine self.now.kind).count }
+        requires near { IsNear aim.now.place }
+        requires lone { aim.now.lone ≤ 2 ^ 20 }
+        ensures ok { OnOk result (into.new.items ≡ into.old.items ++ map (aimed aim.now) (flat_map (end_move ((kind_machine self.now.kind).next state) 3 (length (table_of self.now.code))) letters.now)) }
+    {
+        match letters.split_first() {
+            None => Ok(()),
+            Some((letter, rest)) => {
+                self.push_end(*letter, state, aim, into)?;
+                self.push_ends(rest, state, aim, into)
+            }
+        }
+    }
+
+    /// Adds the move that ends the letter, whose word was read.
+    fn push_end(
+        &self,
+        letter: u8,
+        state: u32,
+        aim: &Aim,
+        into: &mut Moves,
+    ) -> Result<(), OutOfMemory>
+        requires among { state < (kind_machine self.now.kind).count }
+        requires near { IsNear aim.now.place }
+        requires lone { aim.now.lone ≤ 2 ^ 20 }
+        ensures ok { OnOk result (into.new.items ≡ into.old.items ++ map (aimed aim.now) (end_move ((kind_machine self.now.kind).next state) 3 (length (table_of self.now.code)) letter)) }
+    {
         match self.step(state, letter) {
             None => Ok(()),
             Some(after) => aim.put(3 + letter as u32, self.root_of(after), into),
@@ -347,14 +394,22 @@ impl SlotPart {
         ensures exact { result ≡ point / length (table_of self.now.code) }
         ensures among { result < (kind_machine self.now.kind).count }
     {
-        point / self.table.width()
+        let width = self.table.width();
+        if width == 1 {
+            return point;
+        }
+        point / width
     }
 
     /// What was read of a word at a point among letters.
     fn read_at(&self, point: u32) -> &[u8]
         ensures { result.now ≡ get_or (table_of self.now.code) (point % length (table_of self.now.code)) [] }
     {
-        self.table.prefix(point % self.table.width())
+        let width = self.table.width();
+        if width == 1 {
+            return &[];
+        }
+        self.table.prefix(point % width)
     }
 
     /// Whether the slot may print nothing, or nothing between its quotes.

@@ -1,15 +1,17 @@
-ghost use Rattle.std.specs.Prelude.{◌≡◌, ◌+◌, ◌<◌, ◌≤◌, ◌^◌, ◌++◌, OnOk, length, replicate};
+ghost use Rattle.std.specs.Prelude.{◌≡◌, ◌+◌, ◌<◌, ◌≤◌, ◌^◌, ◌++◌, OnOk, length};
 ghost use Rattle.lf_machine.specs.LineMachine.{line_points};
-ghost use Rattle.lf_machine.specs.Spots.{spots_from};
+ghost use Rattle.lf_machine.specs.PieceNumbers.{piece_count};
+ghost use Rattle.lf_machine.specs.Spots.{piece_spots, spots_from};
 
 use crate::piece_part::PiecePart;
 use lf_core::OutOfMemory;
 
-/// Which part a point is of, and where the points of that part begin.
+/// Which part a point is of, where the points of that part begin, and whether the part may end at the point.
 #[derive(Clone, Copy, Default)]
 pub struct Spot {
     pub part: u32,
     pub base: u32,
+    pub done: bool,
 }
 
 /// Adds a spot for each point of the parts, the first of which has the number and the base.
@@ -26,19 +28,28 @@ pub fn push_spots(
     match parts.split_first() {
         None => Ok(()),
         Some((part, rest)) => {
-            let spot = Spot { part: number, base };
-            push_copies(spot, part.points(), spots)?;
+            push_own(part, number, base, spots)?;
             push_spots(rest, number + 1, base + part.points(), spots)
         }
     }
 }
 
-/// Adds so many copies of the spot.
-fn push_copies(spot: Spot, count: u32, spots: &mut Vec<Spot>) -> Result<(), OutOfMemory>
-    ensures ok { OnOk result (spots.new.items ≡ spots.old.items ++ replicate count spot) }
+/// Adds a spot for each point of the part, which has the number and the base.
+fn push_own(
+    part: &PiecePart,
+    number: u32,
+    base: u32,
+    spots: &mut Vec<Spot>,
+) -> Result<(), OutOfMemory>
+    ensures ok { OnOk result (spots.new.items ≡ spots.old.items ++ piece_spots number base part.now (piece_count part.now)) }
 {
-    for _k in 0..count {
-        spots.push(spot)?;
+    for point in 0..part.points() {
+        let done = part.is_done(point);
+        spots.push(Spot {
+            part: number,
+            base,
+            done,
+        })?;
     }
     Ok(())
 }

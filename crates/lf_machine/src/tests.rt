@@ -124,14 +124,12 @@ fn is_text(value: &Value, text: Option<&[u8]>) -> bool {
 
 #[test]
 fn runs_are_decoded(rt: HostRuntime) -> Result<(), Fail> {
-    let format = pair(rt.alloc()).ok().ok_or("memory")?;
+    let format = pair(rt.alloc())?;
     // Two points with 14 prefixes each, and three; the space; one point, and three; and two for the format.
     if format.size() != 51 {
         return Err("size".into());
     }
-    let machine = FormatMachine::build(rt.alloc(), &format)
-        .ok()
-        .ok_or("memory")?;
+    let machine = FormatMachine::build(rt.alloc(), &format)?;
     assert!(rt; machine.points() <= 51);
     let rows: [(&[u8], Option<&[u8]>, Option<&[u8]>); 3] = [
         (b"a \"b\"", Some(b"a"), Some(b"b")),
@@ -139,7 +137,7 @@ fn runs_are_decoded(rt: HostRuntime) -> Result<(), Fail> {
         (b"a\\\"\\\\b \"-\"", Some(b"a\"\\b"), Some(b"-")),
     ];
     for (line, one, other) in rows {
-        let found = read(rt.alloc(), &machine, line).ok().ok_or("memory")?;
+        let found = read(rt.alloc(), &machine, line)?;
         let rec = found.ok_or("no run")?;
         assert!(rt; is_pair(&rec, one, other));
     }
@@ -150,13 +148,11 @@ fn shared<T: Send + Sync>(_value: &T) {}
 
 #[test]
 fn machines_are_shared_by_threads(rt: HostRuntime) -> Result<(), Fail> {
-    let format = pair(rt.alloc()).ok().ok_or("memory")?;
+    let format = pair(rt.alloc())?;
     if format.size() > 4096 {
         return Err("size".into());
     }
-    let machine = FormatMachine::build(rt.alloc(), &format)
-        .ok()
-        .ok_or("memory")?;
+    let machine = FormatMachine::build(rt.alloc(), &format)?;
     shared(&machine);
     Ok(())
 }

@@ -1,8 +1,8 @@
-use Rattle.std.proofs.Common.{◌≡◌, ℕ, zero, suc, ◌+◌, ◌-◌, ◌*◌, ◌/◌, ◌%◌, ◌<◌, ◌≤◌, List, [], ◌∷◌, ◌++◌, length, get_or, drop, set, take, min, inl, inr, true, false, ltb, refl, sym, ap, ◌∙◌, arith, append_assoc, append-nil, add-one}
+use Rattle.std.proofs.Common.{◌≡◌, ℕ, zero, suc, ◌+◌, ◌-◌, ◌*◌, ◌/◌, ◌%◌, ◌<◌, ◌≤◌, List, [], ◌∷◌, ◌++◌, length, get_or, drop, set, take, min, inl, inr, ltb, refl, sym, ap, subst, ◌∙◌, arith, append_assoc, append-nil, add-one}
 use Rattle.std.specs.Prelude.{replicate}
 use Rattle.std.proofs.lemmas.List.{drop-set, drop_all, take_more, length-set}
+use Rattle.std.proofs.Math.Nat.{zero-div}
 use Rattle.std.proofs.lemmas.Nat.{mul-le}
-use Rattle.std.proofs.lemmas.Bool.Decides.{nat_tests}
 use Rattle.lf_number.specs.Numbers.{IsRadix, digit_letter, digit_of, digits, width, last_digits}
 use Rattle.lf_number.specs.Machines.{front, value_after}
 use Rattle.lf_number.specs.Digits.{below, bool_cases, digits-one, digits-more, front-quotient, last-padded, value_after-append}
@@ -36,6 +36,15 @@ last-put r n done end letter rest buffer old few inside e f h =
     let b : end - 1 - done ≡ end - done - 1 = omega arith in
     rw (e, f, a, b, set-put (end - done) (digit_letter (front r n done % r)) buffer (omega arith) (omega arith), add-one, last-front r done n, h)
 
+-- where nothing is left, nothing is left of less
+pub front-stays : (r m j k : ℕ) → j ≤ k → front r m j ≡ 0 → front r m k ≡ 0
+front-stays r m j zero h e = let z : j ≡ 0 = omega arith in subst (λ (x : ℕ). front r m x ≡ 0) z e
+front-stays r m j (suc k) h e =
+    elim (below j (suc k)) [
+      | inl t ↦ rw (front-stays r m j k (omega (arith, t.1)) e) (zero-div r)
+      | inr t ↦ let z : j ≡ suc k = omega (arith, t.1) in subst (λ (x : ℕ). front r m x ≡ 0) z e
+    ]
+
 pub front-next : (r n done rest : ℕ) → rest ≡ front r n done → rest / r ≡ front r n (done + 1)
 front-next r n done rest e = rw (e, add-one)
 
@@ -44,12 +53,6 @@ size-set at letter buffer old e = length-set buffer at letter ∙ e
 
 pub value-more : (r : ℕ) → IsRadix r → (xs : List ℕ) (i : ℕ) → i < length xs → value_after r 0 (take (i + 1) xs) ≡ value_after r (value_after r 0 (take i xs)) (get_or xs i 0 ∷ [])
 value-more r is xs i h = rw (take_more xs i 0 h) (value_after-append r is (take i xs) (get_or xs i 0 ∷ []) 0)
-
-to_less : (a b : ℕ) → a < b → ltb a b ≡ true
-to_less a b h = grind (arith, nat_tests)
-
-to_not_less : (a b : ℕ) → b ≤ a → ltb a b ≡ false
-to_not_less a b h = grind (arith, nat_tests)
 
 capped-push : (r v d top : ℕ) → 1 ≤ r → min (min v top * r + d) top ≡ min (v * r + d) top
 capped-push r v d top one =
@@ -70,16 +73,6 @@ capped-letter r is v c top =
       | inl t ↦ rw t (capped-push r v (digit_of c) top (omega (arith, is.least)))
       | inr t ↦ rw t (omega arith)
     ]
-
-pub capped-digit : (r value d c top mul result : ℕ) → d ≡ digit_of c → d < r → mul ≡ min (value * r) top → result ≡ min (mul + d) top → result ≡ min (value_after r value (c ∷ [])) top
-capped-digit r value d c top mul result d_is few m e =
-    let t : ltb (digit_of c) r ≡ true = to_less (digit_of c) r (omega arith) in
-    rw t (omega arith)
-
-pub capped-other : (r value d c top : ℕ) → d ≡ digit_of c → r ≤ d → value ≤ top → value ≡ min (value_after r value (c ∷ [])) top
-capped-other r value d c top d_is few m =
-    let t : ltb (digit_of c) r ≡ false = to_not_less (digit_of c) r (omega arith) in
-    rw t (omega arith)
 
 -- the point and the whole part before the last three digits
 pub thousandths-put : (n at : ℕ) (old ends new : List ℕ) → length old ≡ 32 → length ends ≡ length old → drop 29 ends ≡ last_digits 10 3 n ++ drop 32 old → drop at new ≡ digits 10 (n / 1000) ++ drop 28 (set ends 28 46) → drop at new ≡ digits 10 (n / 1000) ++ 46 ∷ last_digits 10 3 n

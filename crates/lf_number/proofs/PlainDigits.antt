@@ -75,13 +75,10 @@ zero-low : digit_letter 0 < 49
 unfolding digit_letter
 zero-low = omega arith
 
-capped : (k value : ℕ) → k < 2 ^ 63 → k ≡ min value (2 ^ 64 - 1) → k ≡ value
-capped k value h e = omega arith
-
 -- A number above zero has the text where its magnitude is the digits' value.
 pub is-text : (k : ℕ) (text : List ℕ) (value : ℕ) → k < 2 ^ 63 → is_plain_digits text ≡ true → value ≡ min (value_after 10 0 text) (2 ^ 64 - 1) → k ≡ value → number_text (pos k) ≡ text
 is-text k text value f h v e =
-    let same : k ≡ value_after 10 0 text = capped k (value_after 10 0 text) f (e ∙ v) in
+    let same : k ≡ value_after 10 0 text = omega (arith, f, e ∙ v) in
     ap decimal same ∙ plain-text text h
 
 -- The number that has the text is above zero, and its magnitude is the digits' value.

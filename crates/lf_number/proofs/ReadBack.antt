@@ -1,23 +1,24 @@
 -- How a text is read: one number can have it, and that number's text is compared.
-use Rattle.std.proofs.Common.{◌≡◌, ℕ, suc, ◌-◌, ◌≤◌, ◌^◌, List, [], ◌++◌, min, Bool, true, false, ◌==◌, refl, sym, ap, subst, ◌∙◌, arith}
+use Rattle.std.proofs.Common.{◌≡◌, ℕ, suc, ◌-◌, ◌≤◌, ◌^◌, List, [], ◌++◌, min, Bool, true, false, ◌==◌, refl, sym, ap, subst, ◌∙◌, to_z, of_z, arith}
 use Rattle.std.specs.Prelude.{ℤ, pos, negsuc, ◌≤ℤ◌, FitsSigned, Option, None, Some, MatchOption, ◌≢◌}
 use Rattle.std.specs.Int.{w64}
-use Rattle.std.proofs.lemmas.Int.{ints}
+use Rattle.std.proofs.lemmas.Int.{ints, to_z-of_z}
 use Rattle.std.proofs.lemmas.Bool.Decides.{nat_tests, Decides-eqb}
 use Rattle.std.proofs.lemmas.Slice.Eq.{slice_eq-Decides}
 use Rattle.std.specs.Cmp.Lexicographic.{pointwise}
 use Rattle.std.proofs.Math.Dec.{eqb}
 use Rattle.lf_core.specs.declared.values.Value.{Value}
 use Rattle.lf_core.specs.declared.values.Value.TheVariants.{Num}
-use Rattle.lf_number.specs.Numbers.{decimal, number_text, is_negative, magnitude, num_text, HoldsNumber}
+use Rattle.lf_number.specs.Numbers.{decimal, number_text, is_negative, magnitude, num_text, IsBetween, HoldsNumber}
 use Rattle.lf_number.specs.Machines.{value_after, has_minus}
+use Rattle.lf_number.specs.NumberLaws.{unwrap}
 use Rattle.lf_number.specs.Digits.{ten, value-digits, value-other, digits-head, minus-no_digit}
 
 -- what `signed` tells of a sign and a magnitude
 abbrev pub IsSigned : Bool → ℕ → Option ℤ → Type 0
 IsSigned negative value r = MatchOption r ((m : ℤ) → FitsSigned w64 m → is_negative m ≡ negative → magnitude m ≢ value) (λ m. (is_negative m ≡ negative) × (magnitude m ≡ value))
 
-magnitude-fits : (n : ℤ) → FitsSigned w64 n → magnitude n ≤ 2 ^ 63
+pub magnitude-fits : (n : ℤ) → FitsSigned w64 n → magnitude n ≤ 2 ^ 63
 magnitude-fits (pos k) f = omega (arith, ints)
 magnitude-fits (negsuc k) f = omega (arith, ints)
 
@@ -34,9 +35,6 @@ signed-is n negative value (Some m) f s e h = ap Some (same-sign n m (h.0 ∙ sy
 apart : (c : ℕ) → 48 ≤ c → (c == 45) ≡ false
 apart c h = grind (arith, nat_tests)
 
-unwrap : (a b : ℤ) → Some a ≡ Some b → a ≡ b
-unwrap a b e = cc
-
 minus-digits : (n : ℕ) → has_minus (decimal n) ≡ false
 minus-digits n =
     let r = digits-head 10 ten n in
@@ -51,14 +49,11 @@ text-value : (n : ℤ) → value_after 10 0 (number_text n) ≡ magnitude n
 text-value (pos n) = value-digits 10 ten n
 text-value (negsuc n) = value-other 10 ten 45 (decimal (suc n)) 0 minus-no_digit ∙ value-digits 10 ten (suc n)
 
-capped : (k value : ℕ) → k ≤ 2 ^ 63 → value ≡ min k (2 ^ 64 - 1) → k ≡ value
-capped k value h e = omega arith
-
 pub candidate-is : (n : ℤ) (text : List ℕ) (negative : Bool) (value : ℕ) (r : Option ℤ) → FitsSigned w64 n → number_text n ≡ text → negative ≡ has_minus text → value ≡ min (value_after 10 0 text) (2 ^ 64 - 1) → IsSigned negative value r → r ≡ Some n
 candidate-is n text negative value r f e s v h =
     let k : is_negative n ≡ negative = sym (text-sign n) ∙ ap has_minus e ∙ sym s in
     let m : value_after 10 0 text ≡ magnitude n = ap (value_after 10 0) (sym e) ∙ text-value n in
-    signed-is n negative value r f k (capped (magnitude n) value (magnitude-fits n f) (v ∙ ap (λ (x : ℕ). min x (2 ^ 64 - 1)) m)) h
+    signed-is n negative value r f k (omega (arith, magnitude-fits n f, v, m)) h
 
 fits-between : (lo hi n : ℤ) → FitsSigned w64 lo → FitsSigned w64 hi → lo ≤ℤ n → n ≤ℤ hi → FitsSigned w64 n
 fits-between lo hi n f g l m = omega (arith, ints)
@@ -66,21 +61,24 @@ fits-between lo hi n f g l m = omega (arith, ints)
 not-below : (lo m : ℤ) → pos 0 ≤ℤ lo → lo ≤ℤ m → pos 0 ≤ℤ m
 not-below lo m l h = omega (arith, ints)
 
--- the same of numbers that are not negative, whose text tells the magnitude
-pub positive-candidate : (r : ℕ) (f : ℤ → List ℕ) → ((k : ℕ) → value_after r 0 (f (pos k)) ≡ k) → (n : ℤ) (text : List ℕ) (value : ℕ) (o : Option ℤ) → FitsSigned w64 n → pos 0 ≤ℤ n → f n ≡ text → value ≡ min (value_after r 0 text) (2 ^ 64 - 1) → ((m : ℤ) → FitsSigned w64 m → pos 0 ≤ℤ m → magnitude m ≡ value → o ≡ Some m) → o ≡ Some n
-positive-candidate r f back (pos k) text value o fits low e v only =
-    let m : value_after r 0 text ≡ k = ap (value_after r 0) (sym e) ∙ back k in
-    only (pos k) fits low (capped k value (magnitude-fits (pos k) fits) (v ∙ ap (λ (x : ℕ). min x (2 ^ 64 - 1)) m))
-positive-candidate r f back (negsuc k) text value o fits low e v only = absurd (omega (arith, ints))
+between-same : (lo hi n low high : ℤ) → low ≡ lo → high ≡ hi → IsBetween lo hi n → IsBetween low high n
+between-same lo hi n low high l m h =
+    (subst (λ (x : ℤ). x ≤ℤ n) (sym l) h.0, subst (λ (x : ℤ). n ≤ℤ x) (sym m) h.1)
 
--- a number that is not negative, and whose text is another, leaves no value with the text
-pub no-other : (lo hi : ℤ) (f : ℤ → List ℕ) (text : List ℕ) (r : Option ℤ) (n : ℤ) → FitsSigned w64 lo → FitsSigned w64 hi → pos 0 ≤ℤ lo → ((m : ℤ) → FitsSigned w64 m → pos 0 ≤ℤ m → f m ≡ text → r ≡ Some m) → r ≡ Some n → (f n ≡ text → ⊥) → (v : Value) → HoldsNumber lo hi v → num_text f v ≡ text → ⊥
-no-other lo hi f text r n fl fh low only is apart (Num m) h e =
-    let l : pos 0 ≤ℤ m = not-below lo m low h.0 in
-    let s : r ≡ Some m = only m (fits-between lo hi m fl fh h.0 h.1) l e in
-    let z : m ≡ n = unwrap m n (sym s ∙ is) in
-    apart (subst (λ (x : ℤ). f x ≡ text) z e)
-no-other lo hi f text r n fl fh low only is apart v h e = h
+-- a held number, not negative, whose text tells the magnitude is the one that is found
+pub only-value : (r : ℕ) (f : ℤ → List ℕ) → ((k : ℕ) → value_after r 0 (f (pos k)) ≡ k) → (lo hi : ℤ) (text : List ℕ) (found : Option Value) → FitsSigned w64 lo → FitsSigned w64 hi → pos 0 ≤ℤ lo → ((n : ℤ) → FitsSigned w64 n → pos 0 ≤ℤ n → IsBetween (to_z w64 (of_z w64 lo)) (to_z w64 (of_z w64 hi)) n → value_after r 0 text ≡ magnitude n → found ≡ Some (Num n)) → (v : Value) → HoldsNumber lo hi v → num_text f v ≡ text → found ≡ Some v
+only-value r f back lo hi text found fl fh low only (Num (pos k)) h e =
+    only (pos k) (fits-between lo hi (pos k) fl fh h.0 h.1) (not-below lo (pos k) low h.0) (between-same lo hi (pos k) _ _ (to_z-of_z w64 lo fl) (to_z-of_z w64 hi fh) h) (ap (value_after r 0) (sym e) ∙ back k)
+only-value r f back lo hi text found fl fh low only (Num (negsuc k)) h e =
+    let l : pos 0 ≤ℤ negsuc k = not-below lo (negsuc k) low h.0 in
+    absurd (omega (arith, ints))
+only-value r f back lo hi text found fl fh low only v h e = absurd h
+
+-- where the found value has another text, no value has the text
+pub no-other : (f : Value → List ℕ) (text : List ℕ) (found : Option Value) (value v : Value) → found ≡ Some value → (f value ≡ text → ⊥) → found ≡ Some v → f v ≡ text → ⊥
+no-other f text found value v is apart only e =
+    let z : v ≡ value = unwrap v value (sym only ∙ is) in
+    apart (subst (λ (x : Value). f x ≡ text) z e)
 
 -- a text written into an empty list, compared with another
 pub written-apart : (old new text plain other : List ℕ) (same : Bool) → old ≡ [] → new ≡ old ++ text → plain ≡ new → same ≡ pointwise eqb plain other → same ≡ false → text ≡ other → ⊥

@@ -1,16 +1,15 @@
 -- Numbers whose zero is `-`: those of a range of digits, with the letter of the lone zero exchanged.
-use Rattle.std.proofs.Common.{◌≡◌, ℕ, zero, suc, ◌+◌, ◌-◌, ◌<◌, ◌≤◌, ◌⊎◌, inl, inr, List, [], ◌∷◌, Option, None, Some, Bool, true, false, cond, ltb, ◌==◌, ◌&&◌, refl, sym, ap, ◌∙◌, arith}
+use Rattle.std.proofs.Common.{◌≡◌, ℕ, zero, suc, ◌<◌, ◌≤◌, ◌⊎◌, inl, inr, List, [], ◌∷◌, Option, None, Some, Bool, true, false, cond, ◌==◌, refl, sym, ap, ◌∙◌, arith}
 use Rattle.std.specs.Prelude.{ℤ, pos, negsuc, ◌≤ℤ◌}
 use Rattle.std.proofs.lemmas.Int.{ints}
 use Rattle.std.proofs.lemmas.Bool.Decides.{nat_tests}
 use Rattle.lf_core.specs.Domain.{accepts, IsDomain}
-use Rattle.lf_core.proofs.Accepts.{accepts-image, accepts-step, accepts-stop, map_option, IsImage, guarded_some}
-use Rattle.lf_number.specs.Digits.{bool_cases, ten, value-digits, value-other, minus-no_digit, digits-head}
-use Rattle.lf_number.specs.Free.{free_first-least, free_next-least}
+use Rattle.lf_core.proofs.Accepts.{accepts-image, accepts-step, accepts-stop, map_option, IsImage}
+use Rattle.lf_number.specs.Digits.{ten, value-digits, value-other, minus-no_digit, digits-head}
 use Rattle.lf_number.specs.ReadingLaws.{num_laws}
-use Rattle.lf_number.specs.NumberLaws.{number_accepts, number-stays, unwrap_number, none_some, lone_one, shifted-some, zero-text}
-use Rattle.lf_number.specs.Numbers.{digit_of, decimal, magnitude, is_negative, number_text, dash_text, most_digits, half_points, number_size, dash_size, IsBetween, HoldsNumber, num_text}
-use Rattle.lf_number.specs.Machines.{value_after, exchanged, free_first, free_next, number_first, number_digit, number_next, number_ends, dash_next, dash_machine}
+use Rattle.lf_number.specs.NumberLaws.{number_accepts, size-least, number-stays, below-zero, value-apart, zero-text}
+use Rattle.lf_number.specs.Numbers.{decimal, is_negative, number_text, dash_text, number_size, dash_size, IsBetween, HoldsNumber, num_text}
+use Rattle.lf_number.specs.Machines.{value_after, exchanged, number_next, number_ends, dash_next, dash_machine}
 
 exchanged-twice : (c : ℕ) → exchanged (exchanged c) ≡ c
 exchanged-twice c = grind (arith, nat_tests)
@@ -54,9 +53,6 @@ pub not-negative : (lo : ℤ) → pos 0 ≤ℤ lo → is_negative lo ≡ false
 not-negative (pos k) h = refl
 not-negative (negsuc k) h = absurd (omega (arith, ints))
 
-pub below-zero : (lo : ℤ) (k : ℕ) → pos 0 ≤ℤ lo → lo ≤ℤ negsuc k → ⊥
-below-zero lo k l h = omega (arith, ints)
-
 empty-apart : (c : ℕ) (cs : List ℕ) → c ∷ cs ≡ [] → ⊥
 empty-apart c cs e = cc
 
@@ -73,51 +69,19 @@ map-self None = refl
 map-self (Some at) = refl
 
 module _ (lo hi : ℤ) where
-  first-positive : (base digit after : ℕ) (negative : Bool) → number_first lo hi base negative digit ≡ Some after → 0 < after
-  first-positive base digit after negative e =
-      elim (bool_cases (digit == 0)) [
-        | inl z ↦ let f = lone_one negative after (rw z at e) in omega (arith, f)
-        | inr z ↦
-            let f = unwrap_number (base + free_first 10 (magnitude lo) (magnitude hi) digit) after (rw z at e) in
-            let m = free_first-least 10 (magnitude lo) (magnitude hi) digit in
-            rw (← f) (omega (arith, m))
-      ]
+  abbrev IsPast : ℕ → Type 0
+  IsPast at = (0 < at) × (at < number_size lo hi)
 
-  digit-positive : (base : ℕ) (negative : Bool) (at digit after : ℕ) → number_digit lo hi base negative at digit ≡ Some after → 0 < after
-  digit-positive base negative at digit after e =
-      elim (bool_cases (at == 0)) [
-        | inl z ↦ first-positive base digit after negative (rw z at e)
-        | inr z ↦
-            elim (bool_cases (at == 1)) [
-              | inl o ↦ absurd (none_some after (rw (z, o) at e))
-              | inr o ↦
-                  let f = shifted-some base (free_next 10 (most_digits lo hi) (magnitude lo) (magnitude hi) at digit) after (rw (z, o) at e) in
-                  let m = free_next-least 10 (magnitude lo) (magnitude hi) (most_digits lo hi) at digit f.0 f.1 in
-                  rw (← f.2) (omega (arith, m))
-            ]
-      ]
-
-  -- no letter leads back to the start
-  next-positive : (at letter after : ℕ) → number_next lo hi at letter ≡ Some after → 0 < after
-  next-positive at letter after e =
-      elim (bool_cases (ltb (digit_of letter) 10)) [
-        | inl d ↦
-            elim (bool_cases (ltb at (half_points lo hi))) [
-              | inl t ↦ digit-positive 0 false at (digit_of letter) after (rw (d, t) at e)
-              | inr t ↦ digit-positive (half_points lo hi) true (at - half_points lo hi) (digit_of letter) after (rw (d, t) at e)
-            ]
-        | inr d ↦
-            let f = guarded_some ((letter == 45 && at == 0) && is_negative lo) (half_points lo hi) after (rw d at e) in
-            rw (← f.1) (omega arith)
-      ]
+  goes-past : (at letter after : ℕ) → at < number_size lo hi → number_next lo hi at letter ≡ Some after → IsPast after
+  goes-past at letter after h e = let s = number-stays lo hi at letter after h e in (s.2, s.1)
 
   dash-next : (at letter : ℕ) → 0 < at → dash_next lo hi at letter ≡ number_next lo hi at letter
   dash-next at letter h = let z : (at == 0) ≡ false = grind (arith, nat_tests) in rw z
 
-  dash-image : IsImage (number_next lo hi) (number_ends lo hi) (dash_next lo hi) (number_ends lo hi) (λ (at : ℕ). at) (λ (at : ℕ). 0 < at)
+  dash-image : IsImage (number_next lo hi) (number_ends lo hi) (dash_next lo hi) (number_ends lo hi) (λ (at : ℕ). at) IsPast
   dash-image = record {
-    goes = λ at c h. dash-next at c h ∙ map-self (number_next lo hi at c);
-    keeps = λ at c t h e. next-positive at c t e;
+    goes = λ at c h. dash-next at c h.0 ∙ map-self (number_next lo hi at c);
+    keeps = λ at c t h e. goes-past at c t h.1 e;
     same = λ at h. refl;
   }
 
@@ -127,7 +91,7 @@ module _ (lo hi : ℤ) where
         | inl none ↦ accepts-stop (dash_next lo hi) (number_ends lo hi) 0 c cs none ∙ sym (accepts-stop (number_next lo hi) (number_ends lo hi) 0 (exchanged c) cs none)
         | inr some ↦
             accepts-step (dash_next lo hi) (number_ends lo hi) 0 some.0 c cs some.1
-            ∙ accepts-image (number_next lo hi) (number_ends lo hi) (dash_next lo hi) (number_ends lo hi) (λ (at : ℕ). at) (λ (at : ℕ). 0 < at) dash-image cs some.0 (next-positive 0 (exchanged c) some.0 some.1)
+            ∙ accepts-image (number_next lo hi) (number_ends lo hi) (dash_next lo hi) (number_ends lo hi) (λ (at : ℕ). at) IsPast dash-image cs some.0 (goes-past 0 (exchanged c) some.0 (size-least lo hi 0 (omega arith)) some.1)
             ∙ sym (accepts-step (number_next lo hi) (number_ends lo hi) 0 some.0 (exchanged c) cs some.1)
       ]
 
@@ -156,11 +120,6 @@ module _ (lo hi : ℤ) (low : pos 0 ≤ℤ lo) where
   dash-complete (pos k) h = complete-at k h
   dash-complete (negsuc k) h = absurd (below-zero lo k low h.0)
 
-  dash-apart : (n m : ℤ) → IsBetween lo hi n → IsBetween lo hi m → dash_text n ≡ dash_text m → n ≡ m
-  dash-apart (pos n) (pos m) h g e = ap pos (sym (dash-value n) ∙ ap (value_after 10 0) e ∙ dash-value m)
-  dash-apart (pos n) (negsuc m) h g e = absurd (below-zero lo m low g.0)
-  dash-apart (negsuc n) m h g e = absurd (below-zero lo n low h.0)
-
   size-is : number_size lo hi ≡ dash_size lo hi
   size-is = rw (not-negative lo low)
 
@@ -172,4 +131,4 @@ module _ (lo hi : ℤ) (low : pos 0 ≤ℤ lo) where
   pub dash_laws : IsDomain (HoldsNumber lo hi) (num_text dash_text) (dash_machine lo hi) (dash_size lo hi)
   dash_laws =
       num_laws (IsBetween lo hi) dash_text (dash_machine lo hi) (dash_size lo hi)
-      (record { sound = dash-sound; complete = dash-complete }) dash-apart (omega arith) dash-stays (omega arith)
+      (record { sound = dash-sound; complete = dash-complete }) (value-apart 10 dash_text dash-value lo hi low) (omega arith) dash-stays (omega arith)

@@ -9,6 +9,15 @@ use Rattle.lf_number.specs.Machines.{front, value_after}
 pub below : (a b : ℕ) → ((ltb a b ≡ true) × (a < b)) ⊎ ((ltb a b ≡ false) × (b ≤ a))
 below a b = elim (leb_tells (suc a) b) [ inl t ↦ inl (t.0, omega (arith, t.1)) | inr t ↦ inr (t.0, omega (arith, t.1)) ]
 
+pub to_less : (a b : ℕ) → a < b → ltb a b ≡ true
+to_less a b h = grind (arith, nat_tests)
+
+pub not_less : (a b : ℕ) → b ≤ a → ltb a b ≡ false
+not_less a b h = grind (arith, nat_tests)
+
+pub less_from : (a b : ℕ) → ltb a b ≡ true → a < b
+less_from a b h = grind (arith, nat_tests)
+
 pub bool_cases : (b : Bool) → (b ≡ true) ⊎ (b ≡ false)
 bool_cases true = inl refl
 bool_cases false = inr refl
@@ -53,6 +62,13 @@ letter-positive d h = grind (arith, nat_tests)
 
 pub ten : IsRadix 10
 ten = record { least = omega arith; most = omega arith }
+
+pub letter-is : (r : ℕ) → IsRadix r → (c : ℕ) → digit_of c < r → digit_letter (digit_of c) ≡ c
+letter-is r is c h = letter-digit_of c (omega (arith, is.most))
+
+-- a digit's letter passes the test for a digit
+pub digit-taken : {A : Type 0} (r : ℕ) → IsRadix r → (d : ℕ) (f : ℕ → A) (x : A) → d < r → cond (ltb (digit_of (digit_letter d)) r) (f (digit_of (digit_letter d))) x ≡ f d
+digit-taken r is d f x h = rw (digit_of-letter d (omega (arith, is.most)), to_less d r h)
 
 replicate-more : (c j : ℕ) → replicate j c ++ c ∷ [] ≡ replicate (suc j) c
 replicate-more c zero = refl
@@ -153,7 +169,7 @@ module _ (r : ℕ) (is : IsRadix r) where
   pub width-rises : (m p : ℕ) → p ≤ m → width r p ≤ width r m
   width-rises m p g = width-rises-within m m p (omega arith) g
 
-  width-most : (j n : ℕ) → n < r ^ suc j → width r n ≤ suc j
+  pub width-most : (j n : ℕ) → n < r ^ suc j → width r n ≤ suc j
   width-most zero n h =
       let z : r ^ zero ≡ 1 = pow-zero r in
       let e : r ^ suc zero ≡ r = pow-suc r zero ∙ ap (λ (x : ℕ). x * r) z ∙ one-mul r in
@@ -181,14 +197,8 @@ front-quotient r m (suc j) = rw (front-quotient r m j)
 pub front-push : (r p d j : ℕ) → d < r → front r (p * r + d) (suc j) ≡ front r p j
 front-push r p d j h = sym (front-quotient r (p * r + d) j) ∙ ap (λ (m : ℕ). front r m j) (quotient-push r p d h)
 
-less : (a b : ℕ) → a < b → ltb a b ≡ true
-less a b h = grind (arith, nat_tests)
-
 nothing : (r : ℕ) → 0 * r + 0 ≡ 0
 nothing r = omega arith
-
-not_less : (a b : ℕ) → b ≤ a → ltb a b ≡ false
-not_less a b h = grind (arith, nat_tests)
 
 pub front-zero : (r j : ℕ) → front r 0 j ≡ 0
 front-zero r zero = refl
@@ -220,9 +230,7 @@ module _ (r : ℕ) (is : IsRadix r) where
 
   value-letter : (acc d : ℕ) → d < r → value_after r acc (digit_letter d ∷ []) ≡ acc * r + d
   value-letter acc d h =
-      let e : digit_of (digit_letter d) ≡ d = digit_of-letter d (omega (arith, is.most)) in
-      let t : ltb d r ≡ true = grind (arith, nat_tests) in
-      rw (e, t)
+      digit-taken r is d (λ (x : ℕ). acc * r + x) acc h
 
   pub value_after-append : (xs ys : List ℕ) (acc : ℕ) → value_after r acc (xs ++ ys) ≡ value_after r (value_after r acc xs) ys
   value_after-append [] ys acc = refl
@@ -237,7 +245,7 @@ module _ (r : ℕ) (is : IsRadix r) where
   pub value-zeros : (k : ℕ) → value_after r 0 (replicate k 48) ≡ 0
   value-zeros zero = refl
   value-zeros (suc k) =
-      let t : ltb (digit_of 48) r ≡ true = rw zero-is_digit (less (0) r (omega (arith, is.least))) in
+      let t : ltb (digit_of 48) r ≡ true = rw zero-is_digit (to_less 0 r (omega (arith, is.least))) in
       ap (λ (b : Bool). value_after r (cond b (0 * r + digit_of 48) 0) (replicate k 48)) t
       ∙ ap (λ (d : ℕ). value_after r (0 * r + d) (replicate k 48)) zero-is_digit
       ∙ ap (λ (a : ℕ). value_after r a (replicate k 48)) (nothing r)

@@ -2,7 +2,7 @@
 use Rattle.std.proofs.Common.{◌≡◌, ℕ, suc, ◌+◌, ◌-◌, ◌*◌, ◌/◌, ◌%◌, ◌<◌, ◌≤◌, None, Some, Bool, true, false, cond, ltb, ◌==◌, arith}
 use Rattle.std.proofs.lemmas.Bool.Decides.{nat_tests}
 use Rattle.lf_core.proofs.Accepts.{guarded_some}
-use Rattle.lf_number.specs.Digits.{width-one, width-push, width-least}
+use Rattle.lf_number.specs.Digits.{less_from, width-one, width-push, width-least}
 use Rattle.lf_number.specs.Sides.{side-first, side-next, side-most, side-whole, past-digits, next_side-most, push_side-most, three-most, three-push}
 use Rattle.lf_number.specs.Numbers.{IsRadix, width}
 use Rattle.lf_number.specs.Machines.{front, three, side, push_side, next_side, whole_side, place, free_first, free_more, free_next, counted_place, counted_more, counted_next}
@@ -68,9 +68,6 @@ guarded_none : (c : Bool) (n after : ℕ) → cond c None (Some n) ≡ Some afte
 guarded_none true n after e = cc
 guarded_none false n after e = cc
 
-less_from : (a b : ℕ) → ltb a b ≡ true → a + 1 ≤ b
-less_from a b h = grind (arith, nat_tests)
-
 module _ (r a b : ℕ) where
   pub free_first-most : (digit most : ℕ) → 1 ≤ most → free_first r a b digit < 9 * most + 2
   free_first-most digit most h =
@@ -90,7 +87,7 @@ module _ (r a b : ℕ) where
       let s = (at + 7) % 9 / 3 in
       let t = (at + 7) % 3 in
       let f = guarded_some (ltb k most) (free_more r a b k s t digit) after e in
-      let l : k + 1 ≤ most = less_from k most f.0 in
+      let l : k + 1 ≤ most = omega (arith, less_from k most f.0) in
       let p = place-most (k + 1) (next_side r a k s digit) (next_side r b k t digit) (omega arith) (next_side-most r a k s digit (omega arith)) (next_side-most r b k t digit (omega arith)) most l in
       rw (← f.1) p
 

@@ -114,6 +114,10 @@ number_done lo hi negative at =
     (whole_side 10 (magnitude lo) ((at + 7) / 9) ((at + 7) % 9 / 3))
     (whole_side 10 (magnitude hi) ((at + 7) / 9) ((at + 7) % 3))))
 
+-- where the points of a point's sign begin
+abbrev pub sign_base : ℤ → ℤ → ℕ → ℕ
+sign_base lo hi point = cond (ltb point (half_points lo hi)) 0 (half_points lo hi)
+
 abbrev pub number_ends : ℤ → ℤ → ℕ → Bool
 number_ends lo hi point =
     cond (ltb point (half_points lo hi))

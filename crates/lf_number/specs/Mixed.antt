@@ -1,12 +1,12 @@
 -- A reading of digits, first free and then counted, and the numbers of its states.
-use Rattle.std.proofs.Common.{◌≡◌, ℕ, suc, ◌+◌, ◌-◌, ◌*◌, ◌<◌, ◌≤◌, inl, inr, Option, None, Some, true, false, cond, ltb, ◌==◌, refl, ◌∙◌, arith}
+use Rattle.std.proofs.Common.{◌≡◌, ℕ, suc, ◌+◌, ◌-◌, ◌*◌, ◌<◌, ◌≤◌, inl, inr, Option, None, Some, Bool, true, false, cond, ltb, ◌==◌, refl, ◌∙◌, arith}
 use Rattle.std.specs.Prelude.{ℤ}
 use Rattle.std.proofs.lemmas.Bool.Decides.{nat_tests}
 use Rattle.lf_core.proofs.Accepts.{map_option}
-use Rattle.lf_number.specs.Digits.{below, bool_cases}
+use Rattle.lf_number.specs.Digits.{below, to_less, bool_cases}
 use Rattle.lf_number.specs.Sides.{three-most}
 use Rattle.lf_number.specs.Free.{free_place, free-first, free-next, free-least, free-most, counted_at, counted-rest, counted-low, counted-high, counted-next, counted-done, free_first-most, free_next-most, counted_next-most}
-use Rattle.lf_number.specs.NumberLaws.{place-apart, to_less, unwrap_number, none_some}
+use Rattle.lf_number.specs.NumberLaws.{place-apart, unwrap, none_some}
 use Rattle.lf_number.specs.Numbers.{IsRadix, width}
 use Rattle.lf_number.specs.Machines.{front, three, in_range, free_first, counted_next, mixed_digit, counted_done}
 
@@ -93,10 +93,10 @@ module _ (r : ℕ) (is : IsRadix r) (most a b lo hi top : ℕ) where
       elim (bool_cases (at == 0)) [
         | inl z ↦
             elim (bool_cases (digit == 0)) [
-              | inl y ↦ rw (← (unwrap_number first after (rw (z, y) at e))) f
+              | inl y ↦ rw (← (unwrap first after (rw (z, y) at e))) f
               | inr y ↦
                   let m = free_first-most r a b digit most one in
-                  rw (← (unwrap_number (free_first r a b digit) after (rw (z, y) at e))) (omega (arith, m))
+                  rw (← (unwrap (free_first r a b digit) after (rw (z, y) at e))) (omega (arith, m))
             ]
         | inr z ↦
             elim (bool_cases (at == 1)) [
@@ -110,6 +110,11 @@ module _ (r : ℕ) (is : IsRadix r) (most a b lo hi top : ℕ) where
                   ]
             ]
       ]
+
+-- a test that the machine and the reading both make
+pub under_test : (point : Reading → ℕ) (b : Bool) (x y : Option ℕ) (u v : Option Reading) → (b ≡ true → x ≡ map_option point u) → (b ≡ false → y ≡ map_option point v) → cond b x y ≡ map_option point (cond b u v)
+under_test point true x y u v h g = h refl
+under_test point false x y u v h g = g refl
 
 -- whether a number ends where its digits are counted
 module _ (lo hi : ℤ) (r a b rest q : ℕ) where

@@ -5,8 +5,8 @@ use Rattle.std.proofs.lemmas.Nat.{div-add-mod'}
 use Rattle.std.proofs.lemmas.Bool.Decides.{nat_tests, leb_tells}
 use Rattle.lf_core.specs.Domain.{IsDomain}
 use Rattle.lf_core.proofs.Accepts.{IsImage, map_option, guarded, guarded_some}
-use Rattle.lf_number.specs.Digits.{below, bool_cases, ten, digit_of-letter, letter-digit_of, digit-byte, minus-no_digit, zero-is_digit, letter-zero, digits-one, digits-push, width-one, width-more, width-push, width-least, width-rises, value-digits, digits-head}
-use Rattle.lf_number.specs.Free.{free_place, free-first, free-next, free-least, free-most, free-whole_low, free-whole_high, free_first-most, free_next-most}
+use Rattle.lf_number.specs.Digits.{below, to_less, less_from, bool_cases, ten, letter-is, digit_of-letter, letter-digit_of, digit-byte, minus-no_digit, zero-is_digit, letter-zero, digits-one, digits-push, width-one, width-more, width-push, width-least, width-rises, value-digits, digits-head}
+use Rattle.lf_number.specs.Free.{free_place, free-first, free-next, free-least, free-most, free-whole_low, free-whole_high, free_first-least, free_first-most, free_next-least, free_next-most}
 use Rattle.lf_number.specs.Range.{and-true, range-pos, pos-range, range-neg, neg-range}
 use Rattle.lf_number.specs.ReadingLaws.{IsReading, AcceptsNumbers, reading_accepts, num_laws}
 use Rattle.lf_number.specs.Numbers.{digit_letter, digit_of, decimal, width, magnitude, is_negative, number_text, most_digits, half_points, number_size, IsBetween, HoldsNumber, num_text}
@@ -17,18 +17,6 @@ data Reading : Type 0 where
   begun : Bool → Reading
   lone_zero : Reading
   whole : Bool → ℕ → Reading
-
-pub less_from : (a b : ℕ) → ltb a b ≡ true → a + 1 ≤ b
-less_from a b h = grind (arith, nat_tests)
-
-pub to_less : (a b : ℕ) → a < b → ltb a b ≡ true
-to_less a b h = grind (arith, nat_tests)
-
-pub digit-below : (letter : ℕ) → ltb (digit_of letter) 10 ≡ true → digit_of letter < 10
-digit-below letter h = grind (arith, nat_tests)
-
-pub below-sixteen : (letter : ℕ) → ltb (digit_of letter) 10 ≡ true → digit_of letter < 16
-below-sixteen letter h = grind (arith, nat_tests)
 
 pub zero-text : decimal 0 ≡ 48 ∷ []
 zero-text = digits-one 10 ten 0 (omega arith) ∙ ap (λ (x : ℕ). x ∷ []) letter-zero
@@ -49,9 +37,6 @@ above-magnitude (negsuc a) n h = omega (arith, ints)
 low-negative : (lo : ℤ) (n : ℕ) → lo ≤ℤ negsuc n → is_negative lo ≡ true
 low-negative (pos a) n l = absurd (omega (arith, ints))
 low-negative (negsuc a) n l = refl
-
-pub unwrap_number : (a b : ℕ) → Some a ≡ Some b → a ≡ b
-unwrap_number a b e = cc
 
 -- places of digits are neither the start nor the lone zero
 pub place-apart : (at : ℕ) → 2 ≤ at → ((at == 0) ≡ false) × ((at == 1) ≡ false)
@@ -161,19 +146,16 @@ module _ (lo hi : ℤ) where
       let y : 45 ≡ c = grind (arith, nat_tests, k.0) in
       subst (λ (x : Reading). Step (begun false) c x) g.1 (f.1, ap (λ (x : ℕ). x ∷ []) y)
 
-  letter-is : (c : ℕ) → digit_of c < 10 → digit_letter (digit_of c) ≡ c
-  letter-is c h = letter-digit_of c (omega arith)
-
   first-step : (negative : Bool) (c : ℕ) (t : Reading) → Signed negative → digit_of c < 10 → 0 < digit_of c → whole negative (digit_of c) ≡ t → Step (begun negative) c t
   first-step negative c t h d n e =
       subst (λ (x : Reading). Step (begun negative) c x) e
-      ((h, n, omega (arith, width-one 10 ten (digit_of c) d, width-least 10 ten (magnitude lo))), ap (λ (x : List ℕ). cond negative (45 ∷ []) [] ++ x) (digits-one 10 ten (digit_of c) d ∙ ap (λ (x : ℕ). x ∷ []) (letter-is c d)))
+      ((h, n, omega (arith, width-one 10 ten (digit_of c) d, width-least 10 ten (magnitude lo))), ap (λ (x : List ℕ). cond negative (45 ∷ []) [] ++ x) (digits-one 10 ten (digit_of c) d ∙ ap (λ (x : ℕ). x ∷ []) (letter-is 10 ten c d)))
 
   whole-step : (negative : Bool) (p c : ℕ) (t : Reading) → CanRead (whole negative p) → digit_of c < 10 → width 10 p + 1 ≤ most_digits lo hi → whole negative (p * 10 + digit_of c) ≡ t → Step (whole negative p) c t
   whole-step negative p c t h d w e =
       subst (λ (x : Reading). Step (whole negative p) c x) e (
         (h.0, omega (arith, h.1), omega (arith, w, width-push 10 ten p (digit_of c) h.1 d)),
-        ap (λ (x : List ℕ). cond negative (45 ∷ []) [] ++ x) (digits-push 10 ten p (digit_of c) h.1 d ∙ ap (λ (x : ℕ). decimal p ++ x ∷ []) (letter-is c d)) ∙ sym (append_assoc (cond negative (45 ∷ []) []) (decimal p) (c ∷ [])),
+        ap (λ (x : List ℕ). cond negative (45 ∷ []) [] ++ x) (digits-push 10 ten p (digit_of c) h.1 d ∙ ap (λ (x : ℕ). decimal p ++ x ∷ []) (letter-is 10 ten c d)) ∙ sym (append_assoc (cond negative (45 ∷ []) []) (decimal p) (c ∷ [])),
       )
 
   step : (s : Reading) (c : ℕ) (t : Reading) → CanRead s → read s c ≡ Some t → Step s c t
@@ -181,7 +163,7 @@ module _ (lo hi : ℤ) where
       elim (bool_cases (ltb (digit_of c) 10)) [
         | inl d ↦
             let f = rw d at e in
-            let l = digit-below c d in
+            let l = less_from (digit_of c) 10 d in
             elim (bool_cases (digit_of c == 0)) [
               | inl z ↦
                   let y : 48 ≡ c = zero-letter c z in
@@ -196,7 +178,7 @@ module _ (lo hi : ℤ) where
   step (whole negative p) c t h e =
       let f = guarded (ltb (digit_of c) 10) (cond (ltb (width 10 p) (most_digits lo hi)) (Some (whole negative (p * 10 + digit_of c))) None) t e in
       let g = guarded_some (ltb (width 10 p) (most_digits lo hi)) (whole negative (p * 10 + digit_of c)) t f.1 in
-      whole-step negative p c t h (digit-below c f.0) (less_from (width 10 p) (most_digits lo hi) g.0) g.1
+      whole-step negative p c t h (less_from (digit_of c) 10 f.0) (omega (arith, less_from (width 10 p) (most_digits lo hi) g.0)) g.1
 
   first-digit : (negative : Bool) (n : ℕ) → 0 < n → n < 10 → read (begun negative) (digit_letter n) ≡ Some (whole negative n)
   first-digit negative n h g =
@@ -303,7 +285,7 @@ module _ (lo hi : ℤ) where
   goes : (s : Reading) (letter : ℕ) → CanRead s → number_next lo hi (point s) letter ≡ map_option point (read s letter)
   goes (begun negative) letter h =
       elim (bool_cases (ltb (digit_of letter) 10)) [
-        | inl d ↦ next-digit negative 0 letter (omega arith) d ∙ first-image negative (digit_of letter) (digit-below letter d) ∙ ap (map_option point) (sym (begun-digit negative letter d))
+        | inl d ↦ next-digit negative 0 letter (omega arith) d ∙ first-image negative (digit_of letter) (less_from (digit_of letter) 10 d) ∙ ap (map_option point) (sym (begun-digit negative letter d))
         | inr d ↦ goes-sign negative letter d
       ]
   goes lone_zero letter h =
@@ -314,7 +296,7 @@ module _ (lo hi : ℤ) where
   goes (whole negative p) letter h =
       elim (bool_cases (ltb (digit_of letter) 10)) [
         | inl d ↦ next-digit negative (rest (whole negative p)) letter (rest-small (whole negative p) h) d
-            ∙ more-image negative p (digit_of letter) h.1 (digit-below letter d)
+            ∙ more-image negative p (digit_of letter) h.1 (less_from (digit_of letter) 10 d)
             ∙ ap (map_option point) (sym (whole-digit negative p letter d))
         | inr d ↦
             let o : read (whole negative p) letter ≡ None = rw d in
@@ -373,6 +355,9 @@ module _ (lo hi : ℤ) where
       reading_accepts read is_read (begun false) shown CanRead number_reading (IsBetween lo hi) number_text
       (record { tells = tells; told = told }) (number_machine lo hi) point number_image refl
 
+pub below-zero : (lo : ℤ) (k : ℕ) → pos 0 ≤ℤ lo → lo ≤ℤ negsuc k → ⊥
+below-zero lo k l h = omega (arith, ints)
+
 -- two numbers have two texts
 
 decimal-apart : (n m : ℕ) → decimal n ≡ decimal m → n ≡ m
@@ -395,19 +380,25 @@ number-apart (negsuc n) (negsuc m) e =
     let z = decimal-apart (suc n) (suc m) q in
     cc
 
+-- so have two that are not negative, where a text gives back its number
+pub value-apart : (r : ℕ) (f : ℤ → List ℕ) → ((k : ℕ) → value_after r 0 (f (pos k)) ≡ k) → (lo hi : ℤ) → pos 0 ≤ℤ lo → (n m : ℤ) → IsBetween lo hi n → IsBetween lo hi m → f n ≡ f m → n ≡ m
+value-apart r f back lo hi low (pos n) (pos m) h g e = ap pos (sym (back n) ∙ ap (value_after r 0) e ∙ back m)
+value-apart r f back lo hi low (pos n) (negsuc m) h g e = absurd (below-zero lo m low g.0)
+value-apart r f back lo hi low (negsuc n) m h g e = absurd (below-zero lo n low h.0)
+
 pub none_some : (a : ℕ) → None ≡ Some a → ⊥
 none_some a e = cc
 
-pub lone_one : (negative : Bool) (after : ℕ) → cond negative None (Some 1) ≡ Some after → 1 ≡ after
+lone_one : (negative : Bool) (after : ℕ) → cond negative None (Some 1) ≡ Some after → 1 ≡ after
 lone_one true after e = cc
 lone_one false after e = cc
 
-pub shifted-some : (base : ℕ) (o : Option ℕ) (after : ℕ) → shifted base o ≡ Some after → (at : ℕ) × (o ≡ Some at) × (base + at ≡ after)
+shifted-some : (base : ℕ) (o : Option ℕ) (after : ℕ) → shifted base o ≡ Some after → (at : ℕ) × (o ≡ Some at) × (base + at ≡ after)
 shifted-some base None after e = cc
 shifted-some base (Some at) after e = (at, refl, cc)
 
 module _ (lo hi : ℤ) where
-  size-least : (after : ℕ) → after < half_points lo hi → after < number_size lo hi
+  pub size-least : (after : ℕ) → after < half_points lo hi → after < number_size lo hi
   size-least after h =
       elim (bool_cases (is_negative lo)) [
         | inl n ↦ rw n (omega arith)
@@ -421,19 +412,20 @@ module _ (lo hi : ℤ) where
         | inr n ↦ let k = rw n at h in absurd (omega (arith, k))
       ]
 
-  first-stays : (base : ℕ) (negative : Bool) (digit after : ℕ) → number_first lo hi base negative digit ≡ Some after → after < base + half_points lo hi
+  first-stays : (base : ℕ) (negative : Bool) (digit after : ℕ) → number_first lo hi base negative digit ≡ Some after → (0 < after) × (after < base + half_points lo hi)
   first-stays base negative digit after e =
       elim (bool_cases (digit == 0)) [
         | inl z ↦
             let f = lone_one negative after (rw z at e) in
-            omega (arith, f)
+            (omega (arith, f), omega (arith, f))
         | inr z ↦
-            let f = unwrap_number (base + free_first 10 (magnitude lo) (magnitude hi) digit) after (rw z at e) in
+            let f = unwrap (base + free_first 10 (magnitude lo) (magnitude hi) digit) after (rw z at e) in
+            let l = free_first-least 10 (magnitude lo) (magnitude hi) digit in
             let m = free_first-most 10 (magnitude lo) (magnitude hi) digit (most_digits lo hi) (omega (arith, width-least 10 ten (magnitude lo))) in
-            rw (← f) (omega (arith, m))
+            rw (← f) (omega (arith, l), omega (arith, m))
       ]
 
-  digit-stays : (base : ℕ) (negative : Bool) (at digit after : ℕ) → number_digit lo hi base negative at digit ≡ Some after → after < base + half_points lo hi
+  digit-stays : (base : ℕ) (negative : Bool) (at digit after : ℕ) → number_digit lo hi base negative at digit ≡ Some after → (0 < after) × (after < base + half_points lo hi)
   digit-stays base negative at digit after e =
       elim (bool_cases (at == 0)) [
         | inl z ↦ first-stays base negative digit after (rw z at e)
@@ -442,33 +434,36 @@ module _ (lo hi : ℤ) where
               | inl o ↦ absurd (none_some after (rw (z, o) at e))
               | inr o ↦
                   let f = shifted-some base (free_next 10 (most_digits lo hi) (magnitude lo) (magnitude hi) at digit) after (rw (z, o) at e) in
+                  let l = free_next-least 10 (magnitude lo) (magnitude hi) (most_digits lo hi) at digit f.0 f.1 in
                   let m = free_next-most 10 (magnitude lo) (magnitude hi) (most_digits lo hi) at digit f.0 f.1 in
-                  rw (← f.2) (omega (arith, m))
+                  rw (← f.2) (omega (arith, l), omega (arith, m))
             ]
       ]
 
-  pub number-stays : (point letter after : ℕ) → point < number_size lo hi → number_next lo hi point letter ≡ Some after → (letter < 256) × (after < number_size lo hi)
+  -- no letter leads past the points, or back to the start
+  pub number-stays : (point letter after : ℕ) → point < number_size lo hi → number_next lo hi point letter ≡ Some after → (letter < 256) × (after < number_size lo hi) × (0 < after)
   number-stays point letter after h e =
       elim (bool_cases (ltb (digit_of letter) 10)) [
         | inl d ↦
-            let l = digit-byte letter (below-sixteen letter d) in
+            let l = digit-byte letter (omega (arith, less_from (digit_of letter) 10 d)) in
             elim (below point (half_points lo hi)) [
               | inl t ↦
                   let f = digit-stays 0 false point (digit_of letter) after (rw (d, t.0) at e) in
-                  (l, size-least after (omega (arith, f)))
+                  (l, size-least after (omega (arith, f.1)), f.0)
               | inr t ↦
                   let f = digit-stays (half_points lo hi) true (point - half_points lo hi) (digit_of letter) after (rw (d, t.0) at e) in
-                  (l, size-twice point after h t.1 f)
+                  (l, size-twice point after h t.1 f.1, f.0)
             ]
         | inr d ↦
             let f = guarded_some ((letter == 45 && point == 0) && is_negative lo) (half_points lo hi) after (rw d at e) in
             let a = and-true (letter == 45 && point == 0) (is_negative lo) f.0 in
             let b = and-true (letter == 45) (point == 0) a.0 in
             let l : letter < 256 = grind (arith, nat_tests, b.0) in
-            (l, rw (a.1, ← f.1) (omega arith))
+            (l, rw (a.1, ← f.1) (omega arith), rw (← f.1) (omega arith))
       ]
 
 pub number_laws : (lo hi : ℤ) → IsDomain (HoldsNumber lo hi) (num_text number_text) (number_machine lo hi) (number_size lo hi)
 number_laws lo hi =
     num_laws (IsBetween lo hi) number_text (number_machine lo hi) (number_size lo hi) (number_accepts lo hi)
-    (λ n m _ _ e. number-apart n m e) (size-least lo hi 0 (omega arith)) (number-stays lo hi) (omega arith)
+    (λ n m _ _ e. number-apart n m e) (size-least lo hi 0 (omega arith))
+    (λ at c t h e. let s = number-stays lo hi at c t h e in (s.0, s.1)) (omega arith)

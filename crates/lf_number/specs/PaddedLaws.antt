@@ -6,22 +6,15 @@ use Rattle.std.proofs.lemmas.Nat.{div-add-mod'}
 use Rattle.std.proofs.lemmas.Bool.Decides.{nat_tests}
 use Rattle.lf_core.specs.Domain.{IsDomain}
 use Rattle.lf_core.proofs.Accepts.{map_option, IsImage, guarded, guarded_some}
-use Rattle.lf_number.specs.Digits.{below, bool_cases, digit_of-letter, letter-digit_of, digit-byte, digits-one, digits-push, width-one, width-more, width-push, width-least, width-rises, quotient-positive, rest-below, push-least, front-quotient, front-push, front-none, front-zero, none-front, last-push, last-padded, value-digits, value-zeros, value_after-append}
+use Rattle.lf_number.specs.Digits.{below, to_less, less_from, bool_cases, letter-is, digit-taken, digit-byte, digits-one, digits-push, width-one, width-more, width-push, width-least, width-rises, quotient-positive, rest-below, push-least, front-quotient, front-push, front-none, front-zero, none-front, last-push, last-padded, value-digits, value-zeros, value_after-append}
 use Rattle.lf_number.specs.Sides.{three-most}
 use Rattle.lf_number.specs.Free.{free-least, free-count, free-whole_low, free-whole_high, counted_at, counted-most}
 use Rattle.lf_number.specs.Range.{range-pos, pos-range}
-use Rattle.lf_number.specs.Mixed.{Reading, begun, lone_zero, whole, counted, point, read_digit, IsFree, digit-goes, free-below, mixed-most, done-at}
+use Rattle.lf_number.specs.Mixed.{Reading, begun, lone_zero, whole, counted, point, read_digit, IsFree, digit-goes, free-below, mixed-most, under_test, done-at}
 use Rattle.lf_number.specs.ReadingLaws.{IsReading, AcceptsNumbers, reading_accepts, num_laws}
-use Rattle.lf_number.specs.NumberLaws.{place-apart, to_less, less_from, below-magnitude, unwrap, cond-true, cond-false, not_zero, is_zero, guarded_true}
-use Rattle.lf_number.specs.DashLaws.{below-zero}
+use Rattle.lf_number.specs.NumberLaws.{place-apart, below-magnitude, below-zero, value-apart, unwrap, cond-true, not_zero, is_zero, guarded_true}
 use Rattle.lf_number.specs.Numbers.{IsRadix, digit_letter, digit_of, digits, width, magnitude, last_digits, padded_text, padded_digits, padded_size, IsBetween, HoldsNumber, num_text}
 use Rattle.lf_number.specs.Machines.{value_after, front, three, in_range, mixed_digit, counted_done, padded_zero, padded_next, padded_ends, padded_machine}
-
-digit-less : (r letter : ℕ) → ltb (digit_of letter) r ≡ true → digit_of letter < r
-digit-less r letter h = grind (arith, nat_tests)
-
-no_less : (least k : ℕ) → k < least → leb least k ≡ false
-no_less least k h = grind (arith, nat_tests)
 
 at_least : (least k : ℕ) → least ≤ k → leb least k ≡ true
 at_least least k h = grind (arith, nat_tests)
@@ -30,9 +23,6 @@ from_least : (least k : ℕ) → leb least k ≡ true → least ≤ k
 from_least least k h = grind (arith, nat_tests)
 
 module _ (r : ℕ) (is : IsRadix r) where
-  letter-is : (c : ℕ) → digit_of c < r → digit_letter (digit_of c) ≡ c
-  letter-is c h = letter-digit_of c (omega (arith, is.most))
-
   last-zero : last_digits r 1 0 ≡ digit_letter 0 ∷ []
   last-zero = ap (λ (x : ℕ). digit_letter x ∷ []) (zero-mod r)
 
@@ -130,13 +120,10 @@ module _ (r : ℕ) (is : IsRadix r) (least : ℕ) (lo hi : ℤ) where
   step : (s : Reading) (c : ℕ) (t : Reading) → CanRead s → read s c ≡ Some t → Step s c t
   step s c t h e =
       let g = guarded (ltb (digit_of c) r) (digit_read s (digit_of c)) t e in
-      digit-step s c t h (digit-less r c g.0) g.1
+      digit-step s c t h (less_from (digit_of c) r g.0) g.1
 
   read-digit : (s : Reading) (n : ℕ) → n < r → read s (digit_letter n) ≡ digit_read s n
-  read-digit s n h =
-      let e : digit_of (digit_letter n) ≡ n = digit_of-letter n (omega (arith, is.most)) in
-      let d : ltb n r ≡ true = to_less n r h in
-      ap (λ (m : ℕ). cond (ltb m r) (digit_read s m) None) e ∙ ap (λ (b : Bool). cond b (digit_read s n) None) d
+  read-digit s n h = digit-taken r is n (digit_read s) None h
 
   abbrev Before : Reading → Type 0
   Before t = (t ≡ begun) ⊎ ((s : Reading) × (c : ℕ) × CanRead s × (read s c ≡ Some t))
@@ -200,16 +187,10 @@ module _ (r : ℕ) (is : IsRadix r) (least : ℕ) (lo hi : ℤ) where
 
   goes : (s : Reading) (c : ℕ) → CanRead s → padded_next r least lo hi (at_point s) c ≡ map_option at_point (read s c)
   goes s c h =
-      elim (bool_cases (ltb (digit_of c) r)) [
-        | inl d ↦
-            cond-true (ltb (digit_of c) r) (next_digit (padded_zero r least lo hi) s (digit_of c)) None d
-            ∙ ap (λ (x : ℕ). next_digit x s (digit_of c)) zero-point
-            ∙ digit-goes r is (padded_digits r least hi) (magnitude lo) (magnitude hi) (magnitude lo) (magnitude hi) top (counted 1 0) s (digit_of c) (free s h) (digit-less r c d)
-            ∙ ap (map_option at_point) (sym (cond-true (ltb (digit_of c) r) (digit_read s (digit_of c)) None d))
-        | inr d ↦
-            cond-false (ltb (digit_of c) r) (next_digit (padded_zero r least lo hi) s (digit_of c)) None d
-            ∙ ap (map_option at_point) (sym (cond-false (ltb (digit_of c) r) (digit_read s (digit_of c)) None d))
-      ]
+      under_test at_point (ltb (digit_of c) r) (next_digit (padded_zero r least lo hi) s (digit_of c)) None (digit_read s (digit_of c)) None
+      (λ d. ap (λ (x : ℕ). next_digit x s (digit_of c)) zero-point
+      ∙ digit-goes r is (padded_digits r least hi) (magnitude lo) (magnitude hi) (magnitude lo) (magnitude hi) top (counted 1 0) s (digit_of c) (free s h) (less_from (digit_of c) r d))
+      (λ _. refl)
 
   ends-past : (x : ℕ) → padded_ends r least lo hi ((9 * padded_digits r least hi + 2) + x) ≡ counted_done lo hi x
   ends-past x =
@@ -311,7 +292,7 @@ module _ (r : ℕ) (is : IsRadix r) (least : ℕ) (lo hi : ℤ) where
       let one = most-least in
       let z = zero-below in
       let m = mixed-most r is (padded_digits r least hi) (magnitude lo) (magnitude hi) (magnitude lo) (magnitude hi) top (padded_zero r least lo hi) at (digit_of letter) after (padded_digits r least hi - 1) one (omega arith) (omega arith) g.1 in
-      let d = digit-less r letter g.0 in
+      let d = less_from (digit_of letter) r g.0 in
       (digit-byte letter (omega (arith, is.most)), omega arith)
 
   module _ (low : pos 0 ≤ℤ lo) where
@@ -324,12 +305,7 @@ module _ (r : ℕ) (is : IsRadix r) (least : ℕ) (lo hi : ℤ) where
         reading_accepts read is_read begun shown CanRead padded_reading (IsBetween lo hi) (padded_text r least)
         (record { tells = tells; told = told }) (padded_machine r least lo hi) at_point padded_image refl
 
-    padded-apart : (n m : ℤ) → IsBetween lo hi n → IsBetween lo hi m → padded_text r least n ≡ padded_text r least m → n ≡ m
-    padded-apart (pos n) (pos m) h g e = ap pos (sym (padded-value r is least n) ∙ ap (value_after r 0) e ∙ padded-value r is least m)
-    padded-apart (pos n) (negsuc m) h g e = absurd (below-zero lo m low g.0)
-    padded-apart (negsuc n) m h g e = absurd (below-zero lo n low h.0)
-
     pub padded_laws : IsDomain (HoldsNumber lo hi) (num_text (padded_text r least)) (padded_machine r least lo hi) (padded_size r least hi)
     padded_laws =
         num_laws (IsBetween lo hi) (padded_text r least) (padded_machine r least lo hi) (padded_size r least hi)
-        padded_accepts padded-apart (omega arith) padded-stays (omega arith)
+        padded_accepts (value-apart r (padded_text r least) (padded-value r is least) lo hi low) (omega arith) padded-stays (omega arith)

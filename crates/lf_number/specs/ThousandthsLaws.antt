@@ -5,14 +5,13 @@ use Rattle.std.proofs.lemmas.Nat.{div-add-mod'}
 use Rattle.std.proofs.lemmas.Bool.Decides.{nat_tests}
 use Rattle.lf_core.specs.Domain.{IsDomain}
 use Rattle.lf_core.proofs.Accepts.{map_option, IsImage, guarded, guarded_some}
-use Rattle.lf_number.specs.Digits.{below, bool_cases, ten, digit_of-letter, letter-digit_of, digit-byte, point-no_digit, zero-is_digit, digits-one, digits-push, width-one, width-more, width-push, width-least, width-rises, front-quotient, front-push, last-push, value-digits, value-last, value-other, value_after-append}
+use Rattle.lf_number.specs.Digits.{below, to_less, less_from, bool_cases, ten, letter-is, digit-taken, digit-byte, point-no_digit, zero-is_digit, digits-one, digits-push, width-one, width-more, width-push, width-least, width-rises, front-quotient, front-push, last-push, value-digits, value-last, value-other, value_after-append}
 use Rattle.lf_number.specs.Sides.{three-most, whole_side-most}
 use Rattle.lf_number.specs.Free.{free-least, free-whole_low, free-whole_high, counted_at, counted-most}
 use Rattle.lf_number.specs.Range.{range-pos, pos-range}
-use Rattle.lf_number.specs.Mixed.{Reading, begun, lone_zero, whole, counted, point, read_digit, IsFree, digit-goes, free-below, mixed-most, done-at}
+use Rattle.lf_number.specs.Mixed.{Reading, begun, lone_zero, whole, counted, point, read_digit, IsFree, digit-goes, free-below, mixed-most, under_test, done-at}
 use Rattle.lf_number.specs.ReadingLaws.{IsReading, AcceptsNumbers, reading_accepts, num_laws}
-use Rattle.lf_number.specs.NumberLaws.{place-apart, to_less, less_from, digit-below, below-sixteen, below-magnitude, unwrap, unwrap_number, cond-true, cond-false, by_true, by_false, not_zero, is_zero, guarded_true, none_some, zero-letter, zero-text}
-use Rattle.lf_number.specs.DashLaws.{below-zero}
+use Rattle.lf_number.specs.NumberLaws.{place-apart, below-magnitude, below-zero, value-apart, unwrap, by_true, by_false, not_zero, is_zero, guarded_true, none_some, zero-letter, zero-text}
 use Rattle.lf_number.specs.Numbers.{digit_letter, digit_of, decimal, width, magnitude, last_digits, thousandths_text, whole_digits, thousandths_size, IsBetween, HoldsNumber, num_text}
 use Rattle.lf_number.specs.Machines.{value_after, front, three, in_range, whole_side, counted_place, mixed_digit, counted_done, thousandths_point, thousandths_next, thousandths_ends, thousandths_machine}
 
@@ -32,9 +31,6 @@ thousandths-value n =
     ∙ value-other 10 ten 46 (last_digits 10 3 n) (n / 1000) point-no_digit
     ∙ ap (λ (a : ℕ). value_after 10 a (last_digits 10 3 n)) (sym (thousand n))
     ∙ value-last 10 ten 3 n
-
-letter-is : (c : ℕ) → digit_of c < 10 → digit_letter (digit_of c) ≡ c
-letter-is c h = letter-digit_of c (omega arith)
 
 module _ (lo hi : ℤ) where
   abbrev at_point : Reading → ℕ
@@ -85,7 +81,7 @@ module _ (lo hi : ℤ) where
         | inr z ↦
             let n : 0 < digit_of c = grind (arith, nat_tests) in
             subst (λ (x : Reading). Step begun c x) (unwrap (whole (digit_of c)) t (rw z at e))
-            ((n, one-digit (digit_of c) d), digits-one 10 ten (digit_of c) d ∙ ap (λ (x : ℕ). x ∷ []) (letter-is c d))
+            ((n, one-digit (digit_of c) d), digits-one 10 ten (digit_of c) d ∙ ap (λ (x : ℕ). x ∷ []) (letter-is 10 ten c d))
       ]
 
   whole-step : (p c : ℕ) (t : Reading) → CanRead (whole p) → digit_of c < 10 → digit_read (whole p) (digit_of c) ≡ Some t → Step (whole p) c t
@@ -94,7 +90,7 @@ module _ (lo hi : ℤ) where
       let l = less_from (width 10 p) (whole_digits hi) g.0 in
       subst (λ (x : Reading). Step (whole p) c x) g.1 (
         (omega (arith, h.0), omega (arith, l, width-push 10 ten p (digit_of c) h.0 d)),
-        digits-push 10 ten p (digit_of c) h.0 d ∙ ap (λ (x : ℕ). decimal p ++ x ∷ []) (letter-is c d),
+        digits-push 10 ten p (digit_of c) h.0 d ∙ ap (λ (x : ℕ). decimal p ++ x ∷ []) (letter-is 10 ten c d),
       )
 
   counted-step : (done q c : ℕ) (t : Reading) → CanRead (counted done q) → digit_of c < 10 → digit_read (counted done q) (digit_of c) ≡ Some t → Step (counted done q) c t
@@ -105,7 +101,7 @@ module _ (lo hi : ℤ) where
       subst (λ (x : Reading). Step (counted done q) c x) g.1 (
         (omega (arith, l), subst (λ (x : ℕ). width 10 x ≤ whole_digits hi) (sym f) h.1),
         ap (λ (x : ℕ). decimal x ++ 46 ∷ last_digits 10 (suc done) (q * 10 + digit_of c)) f
-            ∙ ap (λ (ds : List ℕ). decimal (front 10 q done) ++ 46 ∷ ds) (last-push 10 ten done q (digit_of c) d ∙ ap (λ (x : ℕ). last_digits 10 done q ++ x ∷ []) (letter-is c d))
+            ∙ ap (λ (ds : List ℕ). decimal (front 10 q done) ++ 46 ∷ ds) (last-push 10 ten done q (digit_of c) d ∙ ap (λ (x : ℕ). last_digits 10 done q ++ x ∷ []) (letter-is 10 ten c d))
             ∙ sym (append_assoc (decimal (front 10 q done)) (46 ∷ last_digits 10 done q) (c ∷ [])),
       )
 
@@ -128,7 +124,7 @@ module _ (lo hi : ℤ) where
   step : (s : Reading) (c : ℕ) (t : Reading) → CanRead s → read s c ≡ Some t → Step s c t
   step s c t h e =
       elim (bool_cases (ltb (digit_of c) 10)) [
-        | inl d ↦ digit-step s c t h (digit-below c d) (by_true (ltb (digit_of c) 10) (digit_read s (digit_of c)) (cond (c == 46) (point_read s) None) t d e)
+        | inl d ↦ digit-step s c t h (less_from (digit_of c) 10 d) (by_true (ltb (digit_of c) 10) (digit_read s (digit_of c)) (cond (c == 46) (point_read s) None) t d e)
         | inr d ↦
             let g = guarded (c == 46) (point_read s) t (by_false (ltb (digit_of c) 10) (digit_read s (digit_of c)) (cond (c == 46) (point_read s) None) t d e) in
             let y : 46 ≡ c = grind (arith, nat_tests, g.0) in
@@ -136,11 +132,7 @@ module _ (lo hi : ℤ) where
       ]
 
   read-digit : (s : Reading) (n : ℕ) → n < 10 → read s (digit_letter n) ≡ digit_read s n
-  read-digit s n h =
-      let e : digit_of (digit_letter n) ≡ n = digit_of-letter n (omega arith) in
-      let d : ltb n 10 ≡ true = to_less n 10 h in
-      ap (λ (m : ℕ). cond (ltb m 10) (digit_read s m) (cond (digit_letter n == 46) (point_read s) None)) e
-      ∙ ap (λ (b : Bool). cond b (digit_read s n) (cond (digit_letter n == 46) (point_read s) None)) d
+  read-digit s n h = digit-taken 10 ten n (digit_read s) (cond (digit_letter n == 46) (point_read s) None) h
 
   read-point : (s : Reading) → read s 46 ≡ point_read s
   read-point s = ap (λ (m : ℕ). cond (ltb m 10) (digit_read s m) (point_read s)) point-no_digit
@@ -218,10 +210,6 @@ module _ (lo hi : ℤ) where
   abbrev next_digit : Reading → ℕ → Option ℕ
   next_digit s digit = mixed_digit 10 (whole_digits hi) (magnitude lo / 1000) (magnitude hi / 1000) (magnitude lo) (magnitude hi) 1 (at_point s) digit
 
-  under-test : (b : Bool) (s : Reading) → CanRead s → cond b (thousandths_point lo hi (at_point s)) None ≡ map_option at_point (cond b (point_read s) None)
-  under-test true s h = point-goes s h
-  under-test false s h = refl
-
   ends-past : (x : ℕ) → thousandths_ends lo hi ((9 * whole_digits hi + 2) + x) ≡ counted_done lo hi x
   ends-past x =
       let t : ltb ((9 * whole_digits hi + 2) + x) (9 * whole_digits hi + 2) ≡ false = grind (arith, nat_tests) in
@@ -230,16 +218,9 @@ module _ (lo hi : ℤ) where
 
   goes : (s : Reading) (c : ℕ) → CanRead s → thousandths_next lo hi (at_point s) c ≡ map_option at_point (read s c)
   goes s c h =
-      elim (bool_cases (ltb (digit_of c) 10)) [
-        | inl d ↦
-            cond-true (ltb (digit_of c) 10) (next_digit s (digit_of c)) (cond (c == 46) (thousandths_point lo hi (at_point s)) None) d
-            ∙ digit-goes 10 ten (whole_digits hi) (magnitude lo / 1000) (magnitude hi / 1000) (magnitude lo) (magnitude hi) 3 lone_zero s (digit_of c) (free s h) (digit-below c d)
-            ∙ ap (map_option at_point) (sym (cond-true (ltb (digit_of c) 10) (digit_read s (digit_of c)) (cond (c == 46) (point_read s) None) d))
-        | inr d ↦
-            cond-false (ltb (digit_of c) 10) (next_digit s (digit_of c)) (cond (c == 46) (thousandths_point lo hi (at_point s)) None) d
-            ∙ under-test (c == 46) s h
-            ∙ ap (map_option at_point) (sym (cond-false (ltb (digit_of c) 10) (digit_read s (digit_of c)) (cond (c == 46) (point_read s) None) d))
-      ]
+      under_test at_point (ltb (digit_of c) 10) (next_digit s (digit_of c)) (cond (c == 46) (thousandths_point lo hi (at_point s)) None) (digit_read s (digit_of c)) (cond (c == 46) (point_read s) None)
+      (λ d. digit-goes 10 ten (whole_digits hi) (magnitude lo / 1000) (magnitude hi / 1000) (magnitude lo) (magnitude hi) 3 lone_zero s (digit_of c) (free s h) (less_from (digit_of c) 10 d))
+      (λ _. under_test at_point (c == 46) (thousandths_point lo hi (at_point s)) None (point_read s) None (λ _. point-goes s h) (λ _. refl))
 
   same : (s : Reading) → CanRead s → thousandths_ends lo hi (at_point s) ≡ is_read s
   same begun h = let t : ltb 0 (9 * whole_digits hi + 2) ≡ true = to_less 0 (9 * whole_digits hi + 2) (omega arith) in rw t
@@ -290,11 +271,6 @@ module _ (lo hi : ℤ) where
         reading_accepts read is_read begun shown CanRead thousandths_reading (IsBetween lo hi) thousandths_text
         (record { tells = tells; told = told }) (thousandths_machine lo hi) at_point thousandths_image refl
 
-    thousandths-apart : (n m : ℤ) → IsBetween lo hi n → IsBetween lo hi m → thousandths_text n ≡ thousandths_text m → n ≡ m
-    thousandths-apart (pos n) (pos m) h g e = ap pos (sym (thousandths-value n) ∙ ap (value_after 10 0) e ∙ thousandths-value m)
-    thousandths-apart (pos n) (negsuc m) h g e = absurd (below-zero lo m low g.0)
-    thousandths-apart (negsuc n) m h g e = absurd (below-zero lo n low h.0)
-
     point-stays : (at after : ℕ) → thousandths_point lo hi at ≡ Some after → after < thousandths_size hi
     point-stays at after e =
         elim (bool_cases (at == 0)) [
@@ -303,7 +279,7 @@ module _ (lo hi : ℤ) where
               elim (bool_cases (at == 1)) [
                 | inl o ↦
                     let m = counted-most 3 (three 0 (magnitude lo / 1000)) (three 0 (magnitude hi / 1000)) (three-most 0 (magnitude lo / 1000)) (three-most 0 (magnitude hi / 1000)) 3 (omega arith) in
-                    let f = unwrap_number ((9 * whole_digits hi + 2) + counted_place 3 (three 0 (magnitude lo / 1000)) (three 0 (magnitude hi / 1000))) after (rw (z, o) at e) in
+                    let f = unwrap ((9 * whole_digits hi + 2) + counted_place 3 (three 0 (magnitude lo / 1000)) (three 0 (magnitude hi / 1000))) after (rw (z, o) at e) in
                     rw (← f) (omega (arith, m))
                 | inr o ↦
                     elim (below at (9 * whole_digits hi + 2)) [
@@ -311,7 +287,7 @@ module _ (lo hi : ℤ) where
                           let x = whole_side 10 (magnitude lo / 1000) ((at + 7) / 9) ((at + 7) % 9 / 3) in
                           let y = whole_side 10 (magnitude hi / 1000) ((at + 7) / 9) ((at + 7) % 3) in
                           let m = counted-most 3 x y (whole_side-most 10 (magnitude lo / 1000) ((at + 7) / 9) ((at + 7) % 9 / 3) (omega arith)) (whole_side-most 10 (magnitude hi / 1000) ((at + 7) / 9) ((at + 7) % 3) (omega arith)) 3 (omega arith) in
-                          let f = unwrap_number ((9 * whole_digits hi + 2) + counted_place 3 x y) after (rw (z, o, t.0) at e) in
+                          let f = unwrap ((9 * whole_digits hi + 2) + counted_place 3 x y) after (rw (z, o, t.0) at e) in
                           rw (← f) (omega (arith, m))
                       | inr t ↦ absurd (none_some after (rw (z, o, t.0) at e))
                     ]
@@ -323,7 +299,7 @@ module _ (lo hi : ℤ) where
         elim (bool_cases (ltb (digit_of letter) 10)) [
           | inl d ↦
               let m = mixed-most 10 ten (whole_digits hi) (magnitude lo / 1000) (magnitude hi / 1000) (magnitude lo) (magnitude hi) 3 1 at (digit_of letter) after 3 (width-least 10 ten (magnitude hi / 1000)) (omega arith) (omega (arith, h)) (rw d at e) in
-              (digit-byte letter (below-sixteen letter d), omega (arith, m))
+              (digit-byte letter (omega (arith, less_from (digit_of letter) 10 d)), omega (arith, m))
           | inr d ↦
               let g = guarded (letter == 46) (thousandths_point lo hi at) after (rw d at e) in
               let l : letter < 256 = grind (arith, nat_tests, g.0) in
@@ -333,4 +309,4 @@ module _ (lo hi : ℤ) where
     pub thousandths_laws : IsDomain (HoldsNumber lo hi) (num_text thousandths_text) (thousandths_machine lo hi) (thousandths_size hi)
     thousandths_laws =
         num_laws (IsBetween lo hi) thousandths_text (thousandths_machine lo hi) (thousandths_size hi)
-        thousandths_accepts thousandths-apart (omega arith) thousandths-stays (omega arith)
+        thousandths_accepts (value-apart 10 thousandths_text thousandths-value lo hi low) (omega arith) thousandths-stays (omega arith)

@@ -1,8 +1,8 @@
 //! How the digits of a number stand to those of two bounds, as points of a machine.
 
-ghost use Rattle.std.specs.Prelude.{◌≡◌, ◌+◌, ◌*◌, ◌/◌, ◌%◌, ◌≤◌, IfSome};
-ghost use Rattle.lf_number.specs.Numbers.{IsRadix};
-ghost use Rattle.lf_number.specs.Machines.{three as three_of, push_side as push_side_of, next_side as next_side_of, whole_side as whole_side_of, place as place_of, free_first, free_more, free_next, counted_place as counted_place_of, counted_more, counted_next, in_range as in_range_of};
+ghost use Rattle.std.specs.Prelude.{◌≡◌, ◌+◌, ◌*◌, ◌/◌, ◌%◌, ◌≤◌, IfSome, cond, ltb};
+ghost use Rattle.lf_number.specs.Numbers.{IsRadix, width as width_of};
+ghost use Rattle.lf_number.specs.Machines.{front as front_of, three as three_of, push_side as push_side_of, next_side as next_side_of, whole_side as whole_side_of, place as place_of, free_first, free_next, counted_place as counted_place_of, in_range as in_range_of};
 
 use crate::digits::{front, width};
 
@@ -20,37 +20,40 @@ pub fn three(p: u64, q: u64) -> u32
     }
 }
 
-/// How a number stands to another, after one digit more of both.
-fn push_side(how: u32, digit: u64, other: u64) -> u32
-    requires { how ≤ 2 }
-    ensures exact { result ≡ push_side_of how digit other }
+/// How a number stands to the bound without its last `rest` digits, after one digit more of both.
+pub fn push_side(radix: u64, bound: u64, rest: u32, how: u32, digit: u64) -> u32
+    requires radix_is { IsRadix radix }
+    requires how_is { how ≤ 2 }
+    ensures exact { result ≡ push_side_of how digit (front_of radix bound rest % radix) }
     ensures most { result ≤ 2 }
 {
-    if how == 1 { three(digit, other) } else { how }
+    if how != 1 {
+        return how;
+    }
+    three(digit, front(radix, bound, rest) % radix)
 }
 
 /// How so many digits stand to the first digits of the bound, after one digit more.
-fn next_side(radix: u64, bound: u64, digits: u32, how: u32, digit: u64) -> u32
+fn next_side(radix: u64, bound: u64, all: u32, digits: u32, how: u32, digit: u64) -> u32
     requires radix_is { IsRadix radix }
+    requires all_is { all ≡ width_of radix bound }
     requires how_is { how ≤ 2 }
     ensures exact { result ≡ next_side_of radix bound digits how digit }
     ensures most { result ≤ 2 }
 {
-    let all = width(radix, bound);
     if digits >= all {
         return 2;
     }
-    push_side(how, digit, front(radix, bound, all - (digits + 1)) % radix)
+    push_side(radix, bound, all - (digits + 1), how, digit)
 }
 
-/// How a number of so many digits stands to the bound.
-fn whole_side(radix: u64, bound: u64, digits: u32, how: u32) -> u32
-    requires radix_is { IsRadix radix }
-    requires how_is { how ≤ 2 }
-    ensures exact { result ≡ whole_side_of radix bound digits how }
+/// How a number of so many digits stands to a bound of `all` digits.
+fn whole_side(all: u32, digits: u32, how: u32) -> u32
+    requires { how ≤ 2 }
+    ensures exact { result ≡ cond (ltb digits all) 0 how }
     ensures most { result ≤ 2 }
 {
-    if digits < width(radix, bound) { 0 } else { how }
+    if digits < all { 0 } else { how }
 }
 
 /// The place after so many digits, whose number isn't known before they end.
@@ -76,23 +79,46 @@ pub fn counted_place(rest: u32, to_lo: u32, to_hi: u32) -> u32
     9 * rest + 3 * to_lo + to_hi
 }
 
-/// Two bounds and the radix of their digits.
+/// Two bounds, the radix of their digits, and how many digits each has.
 #[derive(Clone, Copy)]
 pub struct Bounds {
     pub radix: u64,
     pub lo: u64,
     pub hi: u64,
+    pub lo_width: u32,
+    pub hi_width: u32,
     ghost radix_is: { IsRadix radix },
+    ghost lo_width_is: { lo_width ≡ width_of radix lo },
+    ghost hi_width_is: { hi_width ≡ width_of radix hi },
 }
 
 impl Bounds {
+    /// The bounds, with their digits counted.
+    pub fn new(radix: u64, lo: u64, hi: u64) -> Bounds
+        requires { IsRadix radix }
+        ensures radix { result.radix ≡ radix }
+        ensures lo { result.lo ≡ lo }
+        ensures hi { result.hi ≡ hi }
+        ensures least { 1 ≤ result.hi_width }
+        ensures most_lo { result.lo_width ≤ 20 }
+        ensures most_hi { result.hi_width ≤ 20 }
+    {
+        Bounds {
+            radix,
+            lo,
+            hi,
+            lo_width: width(radix, lo),
+            hi_width: width(radix, hi),
+        }
+    }
+
     /// The place after a first digit that is not zero.
     pub fn first(self, digit: u64) -> u32
         ensures exact { result ≡ free_first self.radix self.lo self.hi digit }
         ensures most { result ≤ 10 }
     {
-        let to_lo = next_side(self.radix, self.lo, 0, 1, digit);
-        let to_hi = next_side(self.radix, self.hi, 0, 1, digit);
+        let to_lo = next_side(self.radix, self.lo, self.lo_width, 0, 1, digit);
+        let to_hi = next_side(self.radix, self.hi, self.hi_width, 0, 1, digit);
         place(1, to_lo, to_hi)
     }
 
@@ -107,43 +133,25 @@ impl Bounds {
         if digits >= most {
             return None;
         }
-        let to_lo = next_side(self.radix, self.lo, digits, (at + 7) % 9 / 3, digit);
-        let to_hi = next_side(self.radix, self.hi, digits, (at + 7) % 3, digit);
+        let lo_side = (at + 7) % 9 / 3;
+        let hi_side = (at + 7) % 3;
+        let to_lo = next_side(self.radix, self.lo, self.lo_width, digits, lo_side, digit);
+        let to_hi = next_side(self.radix, self.hi, self.hi_width, digits, hi_side, digit);
         Some(place(digits + 1, to_lo, to_hi))
     }
 
-    /// How the number whose digits end at the place stands to the lower bound.
-    pub fn whole_lo(self, at: u32) -> u32
+    /// How the number whose digits end at the place stands to the lower and to the upper bound.
+    pub fn whole(self, at: u32) -> (u32, u32)
         requires { at ≤ 4596 }
-        ensures exact { result ≡ whole_side_of self.radix self.lo ((at + 7) / 9) ((at + 7) % 9 / 3) }
-        ensures most { result ≤ 2 }
+        ensures lo { result.0 ≡ whole_side_of self.radix self.lo ((at + 7) / 9) ((at + 7) % 9 / 3) }
+        ensures hi { result.1 ≡ whole_side_of self.radix self.hi ((at + 7) / 9) ((at + 7) % 3) }
+        ensures most_lo { result.0 ≤ 2 }
+        ensures most_hi { result.1 ≤ 2 }
     {
-        whole_side(self.radix, self.lo, (at + 7) / 9, (at + 7) % 9 / 3)
-    }
-
-    /// How the number whose digits end at the place stands to the upper bound.
-    pub fn whole_hi(self, at: u32) -> u32
-        requires { at ≤ 4596 }
-        ensures exact { result ≡ whole_side_of self.radix self.hi ((at + 7) / 9) ((at + 7) % 3) }
-        ensures most { result ≤ 2 }
-    {
-        whole_side(self.radix, self.hi, (at + 7) / 9, (at + 7) % 3)
-    }
-
-    /// The point after a further digit, where the number of those to come is known.
-    pub fn counted_next(self, base: u32, at: u32, digit: u64) -> Option<u32>
-        requires base_is { base ≤ 4596 }
-        requires small { at ≤ 4596 }
-        ensures { result ≡ counted_next self.radix self.lo self.hi base at digit }
-    {
-        if at / 9 == 0 {
-            return None;
-        }
-        let rest = at / 9 - 1;
-        let radix = self.radix;
-        let to_lo = push_side(at % 9 / 3, digit, front(radix, self.lo, rest) % radix);
-        let to_hi = push_side(at % 3, digit, front(radix, self.hi, rest) % radix);
-        Some(base + counted_place(rest, to_lo, to_hi))
+        let digits = (at + 7) / 9;
+        let to_lo = whole_side(self.lo_width, digits, (at + 7) % 9 / 3);
+        let to_hi = whole_side(self.hi_width, digits, (at + 7) % 3);
+        (to_lo, to_hi)
     }
 }
 

@@ -1,10 +1,9 @@
-ghost use Rattle.std.specs.Prelude.{◌≡◌, ◌+◌, ◌-◌, ◌^◌, ◌≤◌, ◌<◌, ◌≤ℤ◌, ◌++◌, pos, Option, Some, FitsSigned, OnOk, OnErr};
-ghost use Rattle.std.specs.Int.{w64};
-ghost use Rattle.lf_number.specs.Numbers.{HoldsNumber, num_text, dash_text, dash_size, magnitude as magnitude_of};
+ghost use Rattle.std.specs.Prelude.{◌≡◌, ◌≤ℤ◌, pos};
+ghost use Rattle.lf_number.specs.Numbers.{HoldsNumber, num_text, dash_text, dash_size};
 ghost use Rattle.lf_number.specs.Machines.{dash_machine, exchanged as exchanged_of};
 
-use crate::digits::number_of;
 use crate::num_range::{NumRange, write_number};
+use crate::reading::{candidate, is_between};
 use lf_core::{Bytes, Domain, OutOfMemory, Value};
 use std::alloc::Global;
 
@@ -40,35 +39,6 @@ fn exchanged(letter: u8) -> u8
     }
 }
 
-/// Adds the text of a number that is not negative.
-fn write_dash(n: i64, into: &mut Bytes) -> Result<(), OutOfMemory>
-    ensures done { OnOk result (into.new ≡ into.old ++ dash_text n) }
-    ensures failed { OnErr result (into.new ≡ into.old) }
-{
-    if n == 0 {
-        return into.push(b'-');
-    }
-    write_number(n, into)
-}
-
-/// The number, where it is an `i64`.
-pub fn positive(value: u64) -> Option<i64>
-    ensures { (n : _) → FitsSigned w64 n → pos 0 ≤ℤ n → magnitude_of n ≡ value → result ≡ Some n }
-{
-    if value < 1 << 63 {
-        Some(value as i64)
-    } else {
-        None
-    }
-}
-
-/// The one number whose text this can be.
-fn candidate(text: &[u8]) -> Option<i64>
-    ensures { (n : _) → FitsSigned w64 n → pos 0 ≤ℤ n → dash_text n ≡ text.now → result ≡ Some n }
-{
-    positive(number_of(10, text))
-}
-
 impl Domain for DashZero {
     ghost use Rattle.lf_number.specs.DashLaws.{dash_laws};
 
@@ -83,36 +53,25 @@ impl Domain for DashZero {
     ghost laws = { λ d. dash_laws d.lo d.hi d.not_negative };
 
     fn check(&self, v: &Value) -> bool {
-        match v {
-            Value::Num(n) => self.lo <= *n && *n <= self.hi,
-            _ => false,
-        }
+        is_between(self.lo, self.hi, v)
     }
 
     fn write_plain(&self, v: &Value, into: &mut Bytes) -> Result<(), OutOfMemory> {
         match v {
-            Value::Num(n) => write_dash(*n, into),
+            Value::Num(0) => into.push(b'-'),
+            Value::Num(n) => write_number(*n, into),
             _ => Ok(()),
         }
     }
 
     fn read_plain(&self, alloc: Global, text: &[u8]) -> Result<Option<Value>, OutOfMemory> {
-        let lo = self.lo;
-        let hi = self.hi;
-        let n = match candidate(text) {
-            Some(n) => n,
-            None => return Ok(None),
+        let Some(value) = candidate(10, self.lo, self.hi, text) else {
+            return Ok(None);
         };
-        if n < lo {
-            return Ok(None);
-        }
-        if n > hi {
-            return Ok(None);
-        }
         let mut plain = Bytes::new(alloc);
-        write_dash(n, &mut plain)?;
+        self.write_plain(&value, &mut plain)?;
         if plain.as_slice() == text {
-            Ok(Some(Value::Num(n)))
+            Ok(Some(value))
         } else {
             Ok(None)
         }

@@ -39,10 +39,11 @@ pub fn width(radix: u64, number: u64) -> u32
     ensures least { 1 ≤ result }
     ensures most { result ≤ 20 }
 {
+    let top = number / radix;
     let mut digits = 1;
-    let mut rest = number;
-    while rest >= radix {
-        rest /= radix;
+    let mut power = 1;
+    while power <= top {
+        power *= radix;
         digits += 1;
     }
     digits
@@ -53,11 +54,11 @@ pub fn front(radix: u64, number: u64, digits: u32) -> u64
     requires { IsRadix radix }
     ensures { result ≡ front_of radix number digits }
 {
-    if digits >= width(radix, number) {
-        return 0;
-    }
     let mut rest = number;
     for _ in 0..digits {
+        if rest == 0 {
+            return 0;
+        }
         rest /= radix;
     }
     rest

@@ -1,13 +1,11 @@
-ghost use Rattle.std.specs.Prelude.{◌≡◌, ◌+◌, ◌-◌, ◌*◌, ◌/◌, ◌%◌, ◌^◌, ◌≤◌, ◌<◌, ◌≤ℤ◌, ◌++◌, ◌∷◌, length, drop, pos, Option, Some, FitsSigned, OnOk, OnErr};
-ghost use Rattle.std.specs.Int.{w64};
+ghost use Rattle.std.specs.Prelude.{◌≡◌, ◌+◌, ◌/◌, ◌≤◌, ◌<◌, ◌≤ℤ◌, ◌++◌, ◌∷◌, length, drop, pos};
 ghost use Rattle.lf_number.specs.Numbers.{HoldsNumber, num_text, thousandths_text, thousandths_size, whole_digits, magnitude as magnitude_of, decimal, last_digits};
 ghost use Rattle.lf_number.specs.Machines.{thousandths_machine, thousandths_point, thousandths_next, thousandths_ends};
 
 use crate::bounds::{Bounds, counted_place, three};
-use crate::dash_zero::positive;
-use crate::digits::{digit_of, number_of, put_digits, put_last, width};
+use crate::digits::{digit_of, put_digits, put_last};
 use crate::mixed::{MixedDigits, counted_done};
-use crate::num_range::decimal_bounds;
+use crate::reading::{candidate, is_between};
 use lf_core::{Bytes, Domain, OutOfMemory, Value};
 use std::alloc::Global;
 
@@ -27,38 +25,37 @@ impl Fixed3 {
         ensures radix { result.free.radix ≡ 10 }
         ensures free_lo { result.free.lo ≡ magnitude_of self.lo / 1000 }
         ensures free_hi { result.free.hi ≡ magnitude_of self.hi / 1000 }
-        ensures lo { result.counted.lo ≡ magnitude_of self.lo }
-        ensures hi { result.counted.hi ≡ magnitude_of self.hi }
+        ensures lo { result.lo ≡ magnitude_of self.lo }
+        ensures hi { result.hi ≡ magnitude_of self.hi }
         ensures zero { result.zero ≡ 1 }
     {
-        let whole = Bounds {
-            radix: 10,
-            lo: self.lo.unsigned_abs() / 1000,
-            hi: self.hi.unsigned_abs() / 1000,
-        };
+        let lo = self.lo.unsigned_abs();
+        let hi = self.hi.unsigned_abs();
+        let whole = Bounds::new(10, lo / 1000, hi / 1000);
         MixedDigits {
-            most: width(10, whole.hi),
+            most: whole.hi_width,
             free: whole,
-            counted: decimal_bounds(self.lo, self.hi),
+            lo,
+            hi,
             zero: 1,
         }
     }
 
     /// The point after `.`.
     fn after_point(self, at: u32) -> Option<u32>
-        requires { at ≤ 4596 }
         ensures { result ≡ thousandths_point self.lo self.hi at }
     {
-        let digits = self.digits();
-        let whole = digits.free;
         if at == 0 {
             return None;
         }
+        let digits = self.digits();
+        let whole = digits.free;
         if at == 1 {
             return Some(digits.base() + counted_place(3, three(0, whole.lo), three(0, whole.hi)));
         }
         if at < digits.base() {
-            return Some(digits.base() + counted_place(3, whole.whole_lo(at), whole.whole_hi(at)));
+            let (to_lo, to_hi) = whole.whole(at);
+            return Some(digits.base() + counted_place(3, to_lo, to_hi));
         }
         None
     }
@@ -67,10 +64,9 @@ impl Fixed3 {
         requires { at < thousandths_size self.hi }
         ensures { result ≡ thousandths_next self.lo self.hi at letter }
     {
-        let digits = self.digits();
         let digit = digit_of(letter);
         if digit < 10 {
-            return digits.after(at, digit);
+            return self.digits().after(at, digit);
         }
         if letter == b'.' {
             return self.after_point(at);
@@ -101,23 +97,6 @@ fn put_thousandths(number: u64, buffer: &mut [u8]) -> usize
     put_digits(10, number / 1000, 28, buffer)
 }
 
-/// Adds the number's text.
-fn write_thousandths(n: i64, into: &mut Bytes) -> Result<(), OutOfMemory>
-    ensures done { OnOk result (into.new ≡ into.old ++ thousandths_text n) }
-    ensures failed { OnErr result (into.new ≡ into.old) }
-{
-    let mut buffer = [0; 32];
-    let at = put_thousandths(n.unsigned_abs(), &mut buffer);
-    into.extend(&buffer[at..])
-}
-
-/// The one number whose text this can be.
-fn candidate(text: &[u8]) -> Option<i64>
-    ensures { (n : _) → FitsSigned w64 n → pos 0 ≤ℤ n → thousandths_text n ≡ text.now → result ≡ Some n }
-{
-    positive(number_of(10, text))
-}
-
 impl Domain for Fixed3 {
     ghost use Rattle.lf_number.specs.ThousandthsLaws.{thousandths_laws};
 
@@ -132,44 +111,35 @@ impl Domain for Fixed3 {
     ghost laws = { λ d. thousandths_laws d.lo d.hi d.not_negative };
 
     fn check(&self, v: &Value) -> bool {
-        match v {
-            Value::Num(n) => self.lo <= *n && *n <= self.hi,
-            _ => false,
-        }
+        is_between(self.lo, self.hi, v)
     }
 
     fn write_plain(&self, v: &Value, into: &mut Bytes) -> Result<(), OutOfMemory> {
         match v {
-            Value::Num(n) => write_thousandths(*n, into),
+            Value::Num(n) => {
+                let mut buffer = [0; 32];
+                let at = put_thousandths(n.unsigned_abs(), &mut buffer);
+                into.extend(&buffer[at..])
+            }
             _ => Ok(()),
         }
     }
 
     fn read_plain(&self, alloc: Global, text: &[u8]) -> Result<Option<Value>, OutOfMemory> {
-        let lo = self.lo;
-        let hi = self.hi;
-        let n = match candidate(text) {
-            Some(n) => n,
-            None => return Ok(None),
+        let Some(value) = candidate(10, self.lo, self.hi, text) else {
+            return Ok(None);
         };
-        if n < lo {
-            return Ok(None);
-        }
-        if n > hi {
-            return Ok(None);
-        }
         let mut plain = Bytes::new(alloc);
-        write_thousandths(n, &mut plain)?;
+        self.write_plain(&value, &mut plain)?;
         if plain.as_slice() == text {
-            Ok(Some(Value::Num(n)))
+            Ok(Some(value))
         } else {
             Ok(None)
         }
     }
 
     fn points(&self) -> u32 {
-        let whole = self.hi.unsigned_abs() / 1000;
-        9 * width(10, whole) + 38
+        9 * self.digits().most + 38
     }
 
     fn start(&self) -> u32 {

@@ -8,6 +8,7 @@ mod fixed3;
 mod mixed;
 mod num_range;
 mod padded;
+mod reading;
 
 pub use dash_zero::DashZero;
 pub use fixed3::Fixed3;

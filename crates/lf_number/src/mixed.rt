@@ -1,9 +1,9 @@
 //! Digits that are first free and then counted, as points of a machine.
 
-ghost use Rattle.std.specs.Prelude.{◌≡◌, ◌+◌, ◌*◌, ◌≤◌};
-ghost use Rattle.lf_number.specs.Machines.{mixed_digit, counted_done as counted_done_of};
+ghost use Rattle.std.specs.Prelude.{◌≡◌, ◌+◌, ◌-◌, ◌*◌, ◌≤◌};
+ghost use Rattle.lf_number.specs.Machines.{mixed_digit, counted_next as counted_next_of, counted_done as counted_done_of};
 
-use crate::bounds::{Bounds, in_range};
+use crate::bounds::{Bounds, counted_place, in_range, push_side};
 
 /// The free digits with their bounds, at most so many, the bounds of the counted ones, and the point
 /// after a first zero.
@@ -11,11 +11,11 @@ use crate::bounds::{Bounds, in_range};
 pub struct MixedDigits {
     pub most: u32,
     pub free: Bounds,
-    pub counted: Bounds,
+    pub lo: u64,
+    pub hi: u64,
     pub zero: u32,
     ghost least: { 1 ≤ most },
     ghost few: { most ≤ 255 },
-    ghost one_radix: { counted.radix ≡ free.radix },
 }
 
 impl MixedDigits {
@@ -30,7 +30,7 @@ impl MixedDigits {
     pub fn after(self, at: u32, digit: u64) -> Option<u32>
         requires { at ≤ 4596 }
         ensures { result ≡ mixed_digit self.free.radix self.most self.free.lo self.free.hi
-            self.counted.lo self.counted.hi self.zero at digit }
+            self.lo self.hi self.zero at digit }
     {
         if at == 0 {
             if digit == 0 {
@@ -45,7 +45,22 @@ impl MixedDigits {
         if at < base {
             return self.free.next(self.most, at, digit);
         }
-        self.counted.counted_next(base, at - base, digit)
+        self.counted_next(at - base, digit)
+    }
+
+    /// The point after a further digit, where the number of those to come is known.
+    fn counted_next(self, at: u32, digit: u64) -> Option<u32>
+        requires { at ≤ 4596 }
+        ensures { result ≡ counted_next_of self.free.radix self.lo self.hi (9 * self.most + 2) at digit }
+    {
+        if at / 9 == 0 {
+            return None;
+        }
+        let rest = at / 9 - 1;
+        let radix = self.free.radix;
+        let to_lo = push_side(radix, self.lo, rest, at % 9 / 3, digit);
+        let to_hi = push_side(radix, self.hi, rest, at % 3, digit);
+        Some(self.base() + counted_place(rest, to_lo, to_hi))
     }
 }
 

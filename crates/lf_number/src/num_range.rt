@@ -1,11 +1,12 @@
-ghost use Rattle.std.specs.Prelude.{IsTrue, ◌↔◌, ◌≡◌, ◌≢◌, ◌+◌, ◌*◌, ◌≤◌, ◌<◌, ◌≤ℤ◌, ◌++◌, MatchOption, FitsSigned, OnOk, OnErr};
+ghost use Rattle.std.specs.Prelude.{IsTrue, ◌↔◌, ◌≡◌, ◌≢◌, ◌+◌, ◌-◌, ◌≤◌, ◌<◌, ◌++◌, MatchOption, FitsSigned, OnOk, OnErr};
 ghost use Rattle.std.specs.Int.{w64};
 ghost use Rattle.std.specs.List.{list_all};
-ghost use Rattle.lf_number.specs.Numbers.{HoldsNumber, num_text, number_text, number_size, is_decimal_digit, is_plain_digits, magnitude as magnitude_of, is_negative, most_digits, half_points};
-ghost use Rattle.lf_number.specs.Machines.{has_minus as has_minus_of, number_machine, shifted, free_next, number_first, number_digit, number_done, number_next, number_ends};
+ghost use Rattle.lf_number.specs.Numbers.{HoldsNumber, num_text, number_text, number_size, is_decimal_digit, is_plain_digits, magnitude as magnitude_of, is_negative, half_points};
+ghost use Rattle.lf_number.specs.Machines.{has_minus as has_minus_of, sign_base, number_machine, number_digit, number_done, number_next, number_ends};
 
 use crate::bounds::{Bounds, in_range, three};
-use crate::digits::{digit_of, number_of, width};
+use crate::digits::{digit_of, number_of};
+use crate::reading::is_between;
 use itoa::Buffer;
 use lf_core::{Bytes, Domain, OutOfMemory, Value};
 use std::alloc::Global;
@@ -17,60 +18,27 @@ pub struct NumRange {
     pub hi: i64,
 }
 
-/// The decimal digits of the bounds' magnitudes.
-pub fn decimal_bounds(lo: i64, hi: i64) -> Bounds
-    ensures radix { result.radix ≡ 10 }
-    ensures lo { result.lo ≡ magnitude_of lo }
-    ensures hi { result.hi ≡ magnitude_of hi }
-{
-    Bounds {
-        radix: 10,
-        lo: lo.unsigned_abs(),
-        hi: hi.unsigned_abs(),
-    }
-}
-
 impl NumRange {
-    /// How many digits the bound with more of them has.
-    fn most_digits(self) -> u32
-        ensures exact { result ≡ most_digits self.lo self.hi }
-        ensures least { 1 ≤ result }
-        ensures most { result ≤ 20 }
+    /// The decimal digits of the bounds' magnitudes.
+    fn bounds(self) -> Bounds
+        ensures radix { result.radix ≡ 10 }
+        ensures lo { result.lo ≡ magnitude_of self.lo }
+        ensures hi { result.hi ≡ magnitude_of self.hi }
+        ensures least { 1 ≤ result.hi_width }
+        ensures most_lo { result.lo_width ≤ 20 }
+        ensures most_hi { result.hi_width ≤ 20 }
     {
-        width(10, self.lo.unsigned_abs()).max(width(10, self.hi.unsigned_abs()))
+        Bounds::new(10, self.lo.unsigned_abs(), self.hi.unsigned_abs())
     }
 
+    /// How many points the numbers of one sign have.
     pub fn half_points(self) -> u32
         ensures exact { result ≡ half_points self.lo self.hi }
         ensures least { 11 ≤ result }
         ensures most { result ≤ 182 }
     {
-        9 * self.most_digits() + 2
-    }
-
-    /// The point after the first digit, among those of one sign, which begin at the base.
-    fn first_digit(self, base: u32, negative: bool, digit: u64) -> Option<u32>
-        requires low { base ≤ 182 }
-        ensures { result ≡ number_first self.lo self.hi base negative digit }
-    {
-        if digit == 0 {
-            return if negative { None } else { Some(1) };
-        }
-        Some(base + decimal_bounds(self.lo, self.hi).first(digit))
-    }
-
-    /// The point after a further digit.
-    fn more_digit(self, base: u32, at: u32, digit: u64) -> Option<u32>
-        requires low { base ≤ 182 }
-        requires few { at ≤ 182 }
-        ensures { result ≡ shifted base (free_next 10 (most_digits self.lo self.hi)
-            (magnitude_of self.lo) (magnitude_of self.hi) at digit) }
-    {
-        let most = self.most_digits();
-        match decimal_bounds(self.lo, self.hi).next(most, at, digit) {
-            Some(after) => Some(base + after),
-            None => None,
-        }
+        let bounds = self.bounds();
+        9 * bounds.lo_width.max(bounds.hi_width) + 2
     }
 
     /// The point after a digit, among those of one sign, which begin at the base.
@@ -79,13 +47,21 @@ impl NumRange {
         requires few { at ≤ 182 }
         ensures { result ≡ number_digit self.lo self.hi base negative at digit }
     {
-        if at == 0 {
-            return self.first_digit(base, negative, digit);
-        }
         if at == 1 {
             return None;
         }
-        self.more_digit(base, at, digit)
+        if at == 0 && digit == 0 {
+            return if negative { None } else { Some(1) };
+        }
+        let bounds = self.bounds();
+        if at == 0 {
+            return Some(base + bounds.first(digit));
+        }
+        let most = bounds.lo_width.max(bounds.hi_width);
+        match bounds.next(most, at, digit) {
+            Some(after) => Some(base + after),
+            None => None,
+        }
     }
 
     /// Whether the number whose digits end at a point of one sign is in the range.
@@ -96,23 +72,13 @@ impl NumRange {
         if at == 0 {
             return false;
         }
-        let bounds = decimal_bounds(self.lo, self.hi);
         if at == 1 {
-            return in_range(
-                self.lo,
-                self.hi,
-                negative,
-                three(0, bounds.lo),
-                three(0, bounds.hi),
-            );
+            let to_lo = three(0, self.lo.unsigned_abs());
+            let to_hi = three(0, self.hi.unsigned_abs());
+            return in_range(self.lo, self.hi, negative, to_lo, to_hi);
         }
-        in_range(
-            self.lo,
-            self.hi,
-            negative,
-            bounds.whole_lo(at),
-            bounds.whole_hi(at),
-        )
+        let (to_lo, to_hi) = self.bounds().whole(at);
+        in_range(self.lo, self.hi, negative, to_lo, to_hi)
     }
 
     /// How many points the machine has.
@@ -126,21 +92,32 @@ impl NumRange {
         }
     }
 
+    /// Where the points of the point's sign begin: those of negative numbers come last.
+    fn base_of(self, point: u32) -> u32
+        requires { point < number_size self.lo self.hi }
+        ensures exact { result ≡ sign_base self.lo self.hi point }
+        ensures low { result ≤ 182 }
+        ensures few { point - result ≤ 182 }
+    {
+        if self.lo >= 0 {
+            return 0;
+        }
+        let half = self.half_points();
+        if point < half { 0 } else { half }
+    }
+
     /// The point after the letter.
     pub fn after(self, point: u32, letter: u8) -> Option<u32>
         requires { point < number_size self.lo self.hi }
         ensures { result ≡ number_next self.lo self.hi point letter }
     {
-        let half = self.half_points();
         let digit = digit_of(letter);
         if digit < 10 {
-            if point < half {
-                return self.after_digit(0, false, point, digit);
-            }
-            return self.after_digit(half, true, point - half, digit);
+            let base = self.base_of(point);
+            return self.after_digit(base, base > 0, point - base, digit);
         }
         if letter == b'-' && point == 0 && self.lo < 0 {
-            Some(half)
+            Some(self.half_points())
         } else {
             None
         }
@@ -151,12 +128,8 @@ impl NumRange {
         requires { point < number_size self.lo self.hi }
         ensures { result ≡ number_ends self.lo self.hi point }
     {
-        let half = self.half_points();
-        if point < half {
-            self.is_done(false, point)
-        } else {
-            self.is_done(true, point - half)
-        }
+        let base = self.base_of(point);
+        self.is_done(base > 0, point - base)
     }
 }
 
@@ -262,10 +235,7 @@ impl Domain for NumRange {
     ghost laws = { λ d. number_laws d.lo d.hi };
 
     fn check(&self, v: &Value) -> bool {
-        match v {
-            Value::Num(n) => self.lo <= *n && *n <= self.hi,
-            _ => false,
-        }
+        is_between(self.lo, self.hi, v)
     }
 
     fn write_plain(&self, v: &Value, into: &mut Bytes) -> Result<(), OutOfMemory> {

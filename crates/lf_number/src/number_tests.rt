@@ -4,8 +4,6 @@ use std::alloc::Global;
 use std::process::Abort;
 use std::test::Fail;
 
-fn shared<T: Send + Sync>(_: &T) {}
-
 /// Whether the machine accepts the text.
 fn accepts<D: Domain>(rt: &impl Abort, domain: &D, text: &[u8]) -> bool {
     let mut point = domain.start();
@@ -20,7 +18,7 @@ fn accepts<D: Domain>(rt: &impl Abort, domain: &D, text: &[u8]) -> bool {
     domain.ends(point)
 }
 
-/// The domain holds the number, and this is its text.
+/// The domain, which threads can share, holds the number, and this is its text.
 fn holds<D: Domain + Send + Sync>(
     rt: &impl Abort,
     alloc: Global,
@@ -28,7 +26,6 @@ fn holds<D: Domain + Send + Sync>(
     n: i64,
     text: &str,
 ) -> Result<(), Fail> {
-    shared(domain);
     let value = Value::Num(n);
     assert!(rt; domain.check(&value), "{n}");
     let mut plain = Bytes::new(alloc);
@@ -152,7 +149,6 @@ fn padded_at_its_edges(rt: HostRuntime) -> Result<(), Fail> {
     for text in ["7", "006", "0999", "1201", "10000", "00A"] {
         refuses(&rt, alloc, &status, text)?;
     }
-    shared(&Radix::Ten);
     let free = Padded {
         radix: Radix::Ten,
         width: 0,

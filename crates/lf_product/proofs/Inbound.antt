@@ -1,19 +1,17 @@
 -- Lists of arrivals by target, one more.
-use Rattle.std.proofs.Common.{◌≡◌, ℕ, ◌+◌, ◌<◌, ◌≤◌, ◌⊎◌, inl, inr, Bool, List, [], ◌∷◌, ◌++◌, length, get_or, set, take, refl, sym, ap, ◌∙◌, subst, get_or-set_same, get_or-set_other}
-use Rattle.std.specs.Prelude.{Vec, slice_index_or}
+use Rattle.std.proofs.Common.{◌≡◌, ℕ, ◌+◌, ◌<◌, ◌≤◌, ◌⊎◌, inl, inr, Bool, List, [], ◌∷◌, ◌++◌, length, get_or, set, take, refl, sym, ap, subst, get_or-set_same, get_or-set_other}
+use Rattle.std.specs.Prelude.{slice_index_or}
 use Rattle.std.specs.List.{Contains}
-use Rattle.std.specs.declared.alloc.Global.{Global}
 use Rattle.std.proofs.lemmas.Bool.{cases_eq, cases_lt}
-use Rattle.std.proofs.lemmas.List.{get_or_past, get_or-map}
+use Rattle.std.proofs.lemmas.List.{get_or_past}
 use Rattle.std.proofs.lemmas.List.Elements.{Contains-push, Contains-push_cases, Contains-append_left, All-contains}
 use Rattle.lf_core.specs.declared.marked.Move.{Move}
 use Rattle.lf_product.specs.ByteSet.{HasByte}
 use Rattle.lf_core.specs.Marked.{IsMachine}
 use Rattle.lf_core.specs.Written.{WrittenMachine, points_of, moves_at, machine_of}
 use Rattle.lf_product.specs.declared.arrivals.Arrival.{Arrival}
-use Rattle.lf_product.specs.Written.{cells_of, rows_of}
 use Rattle.lf_product.specs.declared.arrivals.Departure.{Departure}
-use Rattle.lf_product.specs.Arcs.{seen, IsSeen, Departs, HaveBytes, Arrives}
+use Rattle.lf_product.specs.Arcs.{IsSeen, Departs, HaveBytes, Arrives}
 use Rattle.lf_product.proofs.Sweep.{contains_none, contains_take_more, contains_whole}
 
 -- the lists with one more arrival at a target
@@ -65,24 +63,15 @@ moves_on w from b x lawful h =
       | inr ge ↦ absurd (contains_none x (subst (λ (ys : List Move). Contains ys x) (lawful.bytes from b (moves_from w from b x h) ge) h))
     ]
 
--- a row, as it is written out
-pub row_at : (rows : List (Vec (Vec Move Global) Global)) (i : ℕ) (v : Vec (Vec Move Global) Global) → i < length rows → v ≡ get_or rows i v → get_or (rows_of rows) i [] ≡ cells_of v.items
-row_at rows i v lt is = get_or-map (λ (r : Vec (Vec Move Global) Global). cells_of r.items) rows i v [] lt ∙ ap (λ (r : Vec (Vec Move Global) Global). cells_of r.items) (sym is)
+pub depart_leads : (w : WrittenMachine) (marked : Bool) (from : ℕ) (ds : List Departure) → ((x : Move) (b : ℕ) → b < 256 → Departs ds x b → IsSeen marked (moves_at w from b) x) → (d : Departure) → Contains ds d → (b : ℕ) → b < 256 → HasByte d.bytes b → IsSeen marked (moves_at w from b) (record { mark = d.mark; to = d.to })
+depart_leads w marked from ds froms d h b low on =
+    froms (record { mark = d.mark; to = d.to }) b low (record { by = d; listed = h; mark_is = refl; to_is = refl; on = on })
 
-pub depart_leads : (w : WrittenMachine) (marked : Bool) (from : ℕ) (row : List (Vec Move Global)) (ds : List Departure) → slice_index_or w.rows from [] ≡ cells_of row → ((x : Move) (b : ℕ) → b < 256 → Departs ds x b → IsSeen marked (slice_index_or (cells_of row) b []) x) → (d : Departure) → Contains ds d → (b : ℕ) → b < 256 → HasByte d.bytes b → IsSeen marked (moves_at w from b) (record { mark = d.mark; to = d.to })
-depart_leads w marked from row ds e froms d h b low on =
-    let x : Move = record { mark = d.mark; to = d.to } in
-    subst (λ (r : List (List Move)). IsSeen marked (slice_index_or r b []) x) (sym e) (froms x b low (record { by = d; listed = h; mark_is = refl; to_is = refl; on = on }))
-
-pub depart_below : (w : WrittenMachine) (marked : Bool) (from : ℕ) (row : List (Vec Move Global)) (ds : List Departure) → IsMachine (machine_of w) → slice_index_or w.rows from [] ≡ cells_of row → ((x : Move) (b : ℕ) → b < 256 → Departs ds x b → IsSeen marked (slice_index_or (cells_of row) b []) x) → HaveBytes ds → (d : Departure) → Contains ds d → d.to < points_of w
-depart_below w marked from row ds lawful e froms some d h =
+pub depart_below : (w : WrittenMachine) (marked : Bool) (from : ℕ) (ds : List Departure) → IsMachine (machine_of w) → ((x : Move) (b : ℕ) → b < 256 → Departs ds x b → IsSeen marked (moves_at w from b) x) → HaveBytes ds → (d : Departure) → Contains ds d → d.to < points_of w
+depart_below w marked from ds lawful froms some d h =
     let s = some d h in
-    let (x, here, is) = depart_leads w marked from row ds e froms d h s.0 s.1 s.2 in
+    let (x, here, is) = depart_leads w marked from ds froms d h s.0 s.1 s.2 in
     subst (λ (k : ℕ). k < points_of w) (ap (λ (y : Move). y.to) is) (All-contains (λ (y : Move). y.to < points_of w) (moves_at w from s.0) x (lawful.stays from s.0 (moves_from w from s.0 x here)) here)
-
--- what departs on a byte, of the moves of a row
-pub departs_row : (w : WrittenMachine) (marked : Bool) (from : ℕ) (row : List (Vec Move Global)) (ds : List Departure) → IsMachine (machine_of w) → slice_index_or w.rows from [] ≡ cells_of row → ((x : Move) (b : ℕ) → b < 256 → Contains (slice_index_or (cells_of row) b []) x → Departs ds (seen marked x) b) → (b : ℕ) (x : Move) → Contains (moves_at w from b) x → Departs ds (seen marked x) b
-departs_row w marked from row ds lawful e all b x h = all x b (moves_on w from b x lawful h) (subst (λ (r : List (List Move)). Contains (slice_index_or r b []) x) e h)
 
 -- a departure within the first ones, or the next
 pub departs_take_more : (ds : List Departure) (i : ℕ) (d : Departure) (x : Move) (b : ℕ) → i < length ds → Departs (take (i + 1) ds) x b → Departs (take i ds) x b ⊎ ((d' : Departure) × (get_or ds i d ≡ d') × (d'.mark ≡ x.mark) × (d'.to ≡ x.to) × HasByte d'.bytes b)

@@ -19,13 +19,6 @@ contains_set_old xs i v d x (k, lt, is) =
       | inr ne ↦ inl (k, omega (arith, length-set xs i v, lt), get_or-set_other xs i k v x ne ∙ is)
     ]
 
-pub contains_set_cases : {X : Type 0} (xs : List X) (i : ℕ) (v x : X) → i < length xs → Contains (set xs i v) x → Contains xs x ⊎ (v ≡ x)
-contains_set_cases xs i v x low (k, lt, is) =
-    elim (cases_eq k i) [
-      | inl e ↦ inr (sym (get_or-set_same xs i v x low) ∙ ap (λ (j : ℕ). get_or (set xs i v) j x) (sym e) ∙ is)
-      | inr ne ↦ inl (k, omega (arith, length-set xs i v, lt), sym (get_or-set_other xs i k v x ne) ∙ is)
-    ]
-
 -- a departure that gets a byte keeps all others
 pub departs_set_kept : (ds : List Departure) (i : ℕ) (d e : Departure) (x : Move) (b : ℕ) → i < length ds → get_or ds i d ≡ d → e.mark ≡ d.mark → e.to ≡ d.to → ((c : ℕ) → HasByte d.bytes c → HasByte e.bytes c) → Departs ds x b → Departs (set ds i e) x b
 departs_set_kept ds i d e x b lt is mark to more h =

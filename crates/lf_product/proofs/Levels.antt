@@ -186,41 +186,6 @@ exact m none k ds lawful small r c a b d ha hb =
       λ n h. (none_left m none k ds lawful small r c n a b d ha hb h).1,
     ))
 
--- before the first level
-pub none_reached : (m : Machine) (n none top : ℕ) (ds : List ℕ) → top < none → ((a b : ℕ) (d : Bool) → a < n → b < n → steps_at ds a b d ≡ none) → Reached m n none top ds []
-none_reached m n none top ds small all = record {
-  reached = λ a b d ha hb low. absurd (omega (arith, all a b d ha hb, low));
-  low = λ a b d ha hb. omega (arith, all a b d ha hb);
-  within = λ a b d ha hb low. absurd (omega (arith, all a b d ha hb, low));
-  waits = λ a b d ha hb is. absurd (omega (arith, all a b d ha hb, is, small));
-  waits_left = λ p h. absurd (none_waits p h);
-  waits_right = λ p h. absurd (none_waits p h);
-  waits_at = λ p h. absurd (none_waits p h);
-}
-
--- before the next level
-pub raise : (m : Machine) (n none k : ℕ) (ds : List ℕ) (level : List Pair) → k + 1 < none → Reached m n none k ds level → Reached m n none (k + 1) ds []
-raise m n none k ds level small r = record {
-  reached = λ a b d ha hb low. r.reached a b d ha hb low;
-  low = r.low;
-  within = λ a b d ha hb low. let le : steps_at ds a b d ≤ k = r.within a b d ha hb low in omega (arith, le);
-  waits = λ a b d ha hb is. let le : steps_at ds a b d ≤ k = r.within a b d ha hb (omega (arith, is, small)) in absurd (omega (arith, le, is));
-  waits_left = λ p h. absurd (none_waits p h);
-  waits_right = λ p h. absurd (none_waits p h);
-  waits_at = λ p h. absurd (none_waits p h);
-}
-
-first_step : (m : Machine) (none : ℕ) (ds : List ℕ) (waiting : List Pair) → Reached m m.count none 0 ds waiting → ((a b : ℕ) → a < m.count → b < m.count → m.is_end a ≡ true → m.is_end b ≡ true → steps_at ds a b true < none) → (a b : ℕ) (d : Bool) (j : ℕ) → a < m.count → b < m.count → j ≤ 0 → Suffices m j a b d → steps_at ds a b d ≤ j
-first_step m none ds waiting r all a b true zero ha hb le h = r.within a b true ha hb (all a b ha hb h.0 h.1)
-first_step m none ds waiting r all a b false zero ha hb le (e, f, g) = absurd (cc)
-first_step m none ds waiting r all a b d (suc j) ha hb le h = absurd (omega (arith, le))
-
--- the first level is complete, where each two ends have a distance
-pub first_complete : (m : Machine) (none : ℕ) (ds : List ℕ) (waiting : List Pair) → Reached m m.count none 0 ds waiting → ((a b : ℕ) → a < m.count → b < m.count → m.is_end a ≡ true → m.is_end b ≡ true → steps_at ds a b true < none) → Complete m m.count 0 ds
-first_complete m none ds waiting r all = record {
-  complete = λ a b d j ha hb le h. first_step m none ds waiting r all a b d j ha hb le h;
-}
-
 pub inside : (m : Machine) (ds : List ℕ) (a b : ℕ) (d : Bool) (at : ℕ) → at ≡ cell a b d → IsWhole m ds → a < m.count → b < m.count → at < length ds
 inside m ds a b d at e whole ha hb = omega (arith, e, whole, cell-lt m.count a b d ha hb)
 

@@ -1,12 +1,10 @@
 pub mod Bits
 pub mod SameMachine
-pub mod Filling
 pub mod Places
 pub mod Levels
 pub mod RunPairs
 pub mod Sweep
 pub mod Joins
 pub mod Inbound
-pub mod Beginnings
 pub mod Deciding
 pub mod Ambiguity

@@ -1,41 +1,17 @@
 -- A machine and the one that is written out have the same pairs, distances and ambiguities.
-use Rattle.std.proofs.Common.{◌≡◌, ℕ, zero, suc, ◌<◌, Bool, List, Option, None, Some, Result, Ok, Err, sym, ap, ◌∙◌, subst, arith}
+use Rattle.std.proofs.Common.{◌≡◌, ℕ, zero, suc, ◌<◌, Bool, List, Result, Ok, Err, sym, ap, ◌∙◌, subst}
 use Rattle.std.specs.Prelude.{Contains, IfOk, ◌↔◌}
 use Rattle.lf_core.specs.declared.marked.Move.{Move}
 use Rattle.lf_core.specs.Marked.{Machine, IsMachine}
 use Rattle.lf_core.specs.Written.{WrittenMachine, points_of, machine_of, written}
-use Rattle.lf_core.proofs.WrittenLaws.{written_points, written_is_end, written_row_length, written_ends_length, written_is_machine, same_moves, move_stays, same_whole_runs}
-use Rattle.lf_product.specs.Distance.{PairStep, Suffices, IsDistance, IsAmbiguous}
-use Rattle.lf_product.specs.Written.{IsFull}
+use Rattle.lf_core.proofs.WrittenLaws.{written_points, written_is_end, written_is_machine, same_moves, move_stays, same_whole_runs}
+use Rattle.lf_product.specs.Distance.{PairStep, Suffices, IsAmbiguous}
 
 pub points_are : (m : Machine) (w : WrittenMachine) → w ≡ written m → points_of w ≡ m.count
 points_are m w e = ap (λ (v : WrittenMachine). points_of v) e ∙ written_points m
 
 pub lawful_are : (m : Machine) (w : WrittenMachine) → w ≡ written m → IsMachine m → IsMachine (machine_of w)
 lawful_are m w e lawful = subst (λ (v : WrittenMachine). IsMachine (machine_of v)) (sym e) (written_is_machine m lawful)
-
-full_written : (m : Machine) → IsFull (written m)
-full_written m =
-    let n : points_of (written m) ≡ m.count = written_points m in
-    record {
-      each_byte = λ p h. written_row_length m p (omega (arith, n, h));
-      each_point = written_ends_length m ∙ sym n;
-    }
-
-pub full_are : (m : Machine) (w : WrittenMachine) → w ≡ written m → IsFull w
-full_are m w e = subst (λ (v : WrittenMachine). IsFull v) (sym e) (full_written m)
-
-step_to : (m : Machine) (a b : ℕ) (d : Bool) (a' b' : ℕ) (d' : Bool) → IsMachine m → a < m.count → b < m.count → PairStep m a b d a' b' d' → PairStep (machine_of (written m)) a b d a' b' d'
-step_to m a b d a' b' d' lawful ha hb s = record {
-  byte = s.byte;
-  left = s.left;
-  right = s.right;
-  on_left = subst (λ (xs : List Move). Contains xs s.left) (sym (same_moves m a s.byte lawful ha)) s.on_left;
-  on_right = subst (λ (xs : List Move). Contains xs s.right) (sym (same_moves m b s.byte lawful hb)) s.on_right;
-  left_to = s.left_to;
-  right_to = s.right_to;
-  value = s.value;
-}
 
 step_from : (m : Machine) (a b : ℕ) (d : Bool) (a' b' : ℕ) (d' : Bool) → IsMachine m → a < m.count → b < m.count → PairStep (machine_of (written m)) a b d a' b' d' → PairStep m a b d a' b' d'
 step_from m a b d a' b' d' lawful ha hb s = record {
@@ -55,23 +31,12 @@ step_stays m a b d a' b' d' lawful ha hb s = (
   subst (λ (k : ℕ). k < m.count) s.right_to (move_stays m b s.byte s.right lawful hb s.on_right),
 )
 
-suffices_to : (m : Machine) (n a b : ℕ) (d : Bool) → IsMachine m → a < m.count → b < m.count → Suffices m n a b d → Suffices (machine_of (written m)) n a b d
-suffices_to m zero a b d lawful ha hb h = (written_is_end m a ha ∙ h.0, written_is_end m b hb ∙ h.1, h.2)
-suffices_to m (suc n) a b d lawful ha hb (a', b', d', step, rest) =
-    let inside = step_stays m a b d a' b' d' lawful ha hb step in
-    (a', b', d', step_to m a b d a' b' d' lawful ha hb step, suffices_to m n a' b' d' lawful inside.0 inside.1 rest)
-
 suffices_from : (m : Machine) (n a b : ℕ) (d : Bool) → IsMachine m → a < m.count → b < m.count → Suffices (machine_of (written m)) n a b d → Suffices m n a b d
 suffices_from m zero a b d lawful ha hb h = (sym (written_is_end m a ha) ∙ h.0, sym (written_is_end m b hb) ∙ h.1, h.2)
 suffices_from m (suc n) a b d lawful ha hb (a', b', d', step, rest) =
     let back : PairStep m a b d a' b' d' = step_from m a b d a' b' d' lawful ha hb step in
     let inside = step_stays m a b d a' b' d' lawful ha hb back in
     (a', b', d', back, suffices_from m n a' b' d' lawful inside.0 inside.1 rest)
-
--- a distance of what is written out is one of the machine
-pub distance_of : (m : Machine) (a b : ℕ) (d : Bool) (steps : Option ℕ) → IsMachine m → a < m.count → b < m.count → IsDistance (machine_of (written m)) a b d steps → IsDistance m a b d steps
-distance_of m a b d None lawful ha hb h = λ n s. h n (suffices_to m n a b d lawful ha hb s)
-distance_of m a b d (Some n) lawful ha hb h = (suffices_from m n a b d lawful ha hb h.0, λ k s. h.1 k (suffices_to m k a b d lawful ha hb s))
 
 -- what is written out is ambiguous exactly where the machine is
 pub same_ambiguity : (m : Machine) → IsMachine m → IsAmbiguous m ↔ IsAmbiguous (machine_of (written m))

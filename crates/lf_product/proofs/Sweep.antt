@@ -14,10 +14,9 @@ use Rattle.lf_product.specs.declared.arrivals.Arrival.{Arrival}
 use Rattle.lf_product.specs.Distance.{differed_by, Suffices}
 use Rattle.lf_product.specs.ByteSet.{HasByte}
 use Rattle.lf_product.specs.Cells.{steps_at}
-use Rattle.lf_product.specs.Written.{cells_of}
 use Rattle.lf_product.specs.Arcs.{seen, lists_of}
-use Rattle.lf_product.specs.Level.{Reached, Grows, IsCovered, AreBefore, AreArrivals, StepBy, Tell, Follows, Going, IsWhole, room}
-use Rattle.lf_product.proofs.Levels.{grows-refl, grows-trans}
+use Rattle.lf_product.specs.Level.{Reached, Grows, IsCovered, AreBefore, AreArrivals, StepBy, Tell, Follows, Going, room}
+use Rattle.lf_product.proofs.Levels.{grows-trans}
 
 pub contains_take : {X : Type 0} (xs : List X) (i : ℕ) (x : X) → Contains (take i xs) x → Contains xs x
 contains_take xs i x h = subst (λ ys. Contains ys x) (take-append-drop i xs) (Contains-append_left (take i xs) (drop i xs) x h)
@@ -31,9 +30,6 @@ contains_none x (k, lt, is) = absurd (omega (arith, lt))
 pub list_at : (vs : List (Vec Arrival Global)) (i : ℕ) (v : Vec Arrival Global) → i < length vs → v ≡ get_or vs i v → get_or (lists_of vs) i [] ≡ v.items
 list_at vs i v lt is = get_or-map (λ (w : Vec Arrival Global). w.items) vs i v [] lt ∙ ap (λ (w : Vec Arrival Global). w.items) (sym is)
 
-pub cell_at : (vs : List (Vec Move Global)) (i : ℕ) (v : Vec Move Global) → i < length vs → v ≡ get_or vs i v → get_or (cells_of vs) i [] ≡ v.items
-cell_at vs i v lt is = get_or-map (λ (w : Vec Move Global). w.items) vs i v [] lt ∙ ap (λ (w : Vec Move Global). w.items) (sym is)
-
 pub covered_grows : (n none : ℕ) (ds es : List ℕ) (x y : Arrival) (p : Pair) → Grows n none ds es → x.from < n → y.from < n → IsCovered n none ds x y p → IsCovered n none es x y p
 covered_grows n none ds es x y p g hx hy c b d lt h k e =
     let old : steps_at ds x.from y.from d < none = c b d lt h k e in
@@ -43,9 +39,6 @@ pub before_grows : (m : Machine) (none : ℕ) (ds es : List ℕ) (p : Pair) → 
 before_grows m none ds es p g h a b d ha hb s =
     let old : steps_at ds a b d < none = h a b d ha hb s in
     let e = g.stays a b d ha hb old in omega (arith, e, old)
-
-pub going_first : (m : Machine) (none steps : ℕ) (ds : List ℕ) (ws : List Pair) → IsWhole m ds → Reached m m.count none steps ds ws → Going m none steps ds ws ds ws
-going_first m none steps ds ws w r = record { whole = w; reached = r; grows = grows-refl m.count none ds; same_room = refl }
 
 pub going_on : (m : Machine) (none steps : ℕ) (ds es fs : List ℕ) (ws xs ys : List Pair) → Going m none steps ds ws es xs → Reached m m.count none steps fs ys → Grows m.count none es fs → room none fs ys ≡ room none es xs → Going m none steps ds ws fs ys
 going_on m none steps ds es fs ws xs ys g r h e = record { whole = h.same_length ∙ g.whole; reached = r; grows = grows-trans m.count none ds es fs g.grows h; same_room = e ∙ g.same_room }

@@ -1,9 +1,6 @@
 pub mod ByteSet
 pub mod Distance
 pub mod Cells
-pub mod Written
 pub mod Arcs
 pub mod Level
 pub mod Kept
-pub mod Fork
-pub mod ForkLaws

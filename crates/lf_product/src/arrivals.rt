@@ -1,14 +1,14 @@
 //! The moves of a machine, by where they lead.
 ghost use Rattle.std.specs.Prelude.{◌≡◌, ℕ, ◌<◌, ◌≤◌, ◌⊎◌, ◌++◌, ◌∷◌, [], Contains, length, OnOk, IfOk, slice_index_or, slice_set};
 ghost use Rattle.lf_core.specs.Marked.{IsMachine};
-ghost use Rattle.lf_product.specs.Written.{cells_of, written_of, table_machine, IsFull};
+ghost use Rattle.lf_core.specs.Written.{machine_of, moves_at, points_of};
 ghost use Rattle.lf_product.specs.Arcs.{seen as seen_of, IsSeen, Departs, HaveBytes, lists_of};
 ghost use Rattle.lf_product.specs.Level.{AreArrivals};
 
 use crate::byte_set::ByteSet;
 use crate::limits::MOST_POINTS;
-use crate::table::Table;
 use lf_core::{Move, OutOfMemory};
+use lf_written::Table;
 use std::alloc::Global;
 
 /// The moves that lead from one point to one other with one mark.
@@ -65,25 +65,27 @@ fn seen(marked: bool, step: Move) -> Move
     }
 }
 
-/// The moves of a row, joined by mark, where marks count, and target.
+/// The moves from a point, joined by mark, where marks count, and target.
 fn departures_of(
     alloc: Global,
-    row: &[Vec<Move>],
+    table: &Table,
+    from: u32,
     marked: bool,
 ) -> Result<Vec<Departure>, OutOfMemory>
-    requires { length row.now ≡ 256 }
+    requires { from < points_of table.now }
     ensures from { IfOk result
         (λ ds. (x : Move) (b : ℕ) → b < 256 → Departs ds.items x b →
-        IsSeen marked (slice_index_or (cells_of row.now) b []) x) }
+        IsSeen marked (moves_at table.now from b) x) }
     ensures all { IfOk result
-        (λ ds. (x : Move) (b : ℕ) → b < 256 → Contains (slice_index_or (cells_of row.now) b []) x →
+        (λ ds. (x : Move) (b : ℕ) → b < 256 → Contains (moves_at table.now from b) x →
         Departs ds.items (seen_of marked x) b) }
     ensures some { IfOk result (λ ds. HaveBytes ds.items) }
 {
     let mut departures = Vec::new(alloc);
-    for byte in 0..256usize {
-        for step in &row[byte] {
-            add_departure(&mut departures, byte as u8, seen(marked, *step))?;
+    for byte in 0..256u32 {
+        let byte = byte as u8;
+        for step in table.moves(from, byte) {
+            add_departure(&mut departures, byte, seen(marked, *step))?;
         }
     }
     Ok(departures)
@@ -123,18 +125,16 @@ pub(crate) fn arrivals_of(
     table: &Table,
     marked: bool,
 ) -> Result<Vec<Vec<Arrival>>, OutOfMemory>
-    requires lawful { IsMachine (table_machine table.now) }
-    requires full { IsFull (written_of table.now) }
-    requires few { (table_machine table.now).count ≤ MOST_POINTS }
-    ensures { IfOk result (λ v. AreArrivals (table_machine table.now) marked (lists_of v.items)) }
+    requires lawful { IsMachine (machine_of table.now) }
+    requires few { (machine_of table.now).count ≤ MOST_POINTS }
+    ensures { IfOk result (λ v. AreArrivals (machine_of table.now) marked (lists_of v.items)) }
 {
-    let rows = &table.rows;
-    let mut arrivals = no_arrivals(alloc, rows.len())?;
-    for from in 0..rows.len() {
-        let departures = departures_of(alloc, &rows[from], marked)?;
+    let mut arrivals = no_arrivals(alloc, table.points() as usize)?;
+    for from in 0..table.points() {
+        let departures = departures_of(alloc, table, from, marked)?;
         for d in &departures {
             let arrival = Arrival {
-                from: from as u32,
+                from,
                 mark: d.mark,
                 bytes: d.bytes,
             };

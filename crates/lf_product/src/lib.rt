@@ -7,10 +7,6 @@ pub mod laws;
 mod limits;
 mod pairs;
 mod search;
-mod table;
 
 pub use limits::MOST_POINTS;
 pub use pairs::{Pairs, distances};
-
-#[cfg(test)]
-mod tests;

@@ -5,8 +5,8 @@ ghost use Rattle.lf_product.specs.Distance.{IsAmbiguous, IsDistance};
 
 use crate::limits::MOST_POINTS;
 use crate::search::{NONE, Pair, distances_of, place};
-use crate::table::{Table, table_of};
 use lf_core::{Marked, OutOfMemory};
+use lf_written::Table;
 use std::alloc::Global;
 use std::marker::Model;
 use std::snapshot::Snapshot;
@@ -21,12 +21,11 @@ pub struct Pairs {
 
 impl Model for Pairs {
     ghost use Rattle.lf_core.specs.Written.{WrittenMachine};
-    ghost use Rattle.lf_product.specs.Written.{written_of};
     ghost use Rattle.lf_product.specs.Kept.{AreKept};
 
     ghost Value = { WrittenMachine };
 
-    ghost view = { λ p. written_of p.table.value };
+    ghost view = { λ p. p.table.value };
 
     ghost invariant = { AreKept };
 }
@@ -36,10 +35,10 @@ pub fn distances<M: Marked>(alloc: Global, m: &M) -> Result<Pairs, OutOfMemory>
     requires { (M.machine m.now).count ≤ MOST_POINTS }
     ensures { IfOk result (λ pairs. pairs ≡ written (M.machine m.now)) }
 {
-    let table = table_of(alloc, m)?;
+    let table = Table::of(alloc, m)?;
     let distances = distances_of(alloc, &table)?;
     Ok(Pairs {
-        start: table.start,
+        start: table.start(),
         distances,
         table: Snapshot::of(&table),
     })

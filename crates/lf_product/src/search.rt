@@ -3,14 +3,14 @@ ghost use Rattle.std.specs.Prelude.{◌≡◌, ℕ, ◌+◌, ◌*◌, ◌<◌, �
 ghost use Rattle.lf_core.specs.Marked.{Machine, IsMachine};
 ghost use Rattle.lf_product.specs.Distance.{Suffices};
 ghost use Rattle.lf_product.specs.Cells.{cell, steps_at, IsExact};
-ghost use Rattle.lf_product.specs.Written.{written_of, table_machine, IsFull};
+ghost use Rattle.lf_core.specs.Written.{machine_of};
 ghost use Rattle.lf_product.specs.Arcs.{lists_of};
 ghost use Rattle.lf_product.specs.Level.{Reached, Grows, Complete, AllBefore, room, IsWhole, Follows, AreArrivals, IsCovered, AreBefore, StepBy, Tell};
 
 use crate::arrivals::{Arrival, arrivals_of};
 use crate::limits::MOST_POINTS;
-use crate::table::Table;
 use lf_core::OutOfMemory;
+use lf_written::Table;
 use std::alloc::Global;
 
 /// No distance yet.
@@ -43,17 +43,17 @@ fn reach(
     pair: Pair,
     steps: u32,
 ) -> Result<(), OutOfMemory>
-    requires few { (table_machine table.now).count ≤ MOST_POINTS }
-    requires left { pair.left < (table_machine table.now).count }
-    requires right { pair.right < (table_machine table.now).count }
+    requires few { (machine_of table.now).count ≤ MOST_POINTS }
+    requires left { pair.left < (machine_of table.now).count }
+    requires right { pair.right < (machine_of table.now).count }
     requires small { steps < NONE }
-    requires whole { IsWhole (table_machine table.now) distances.old.items }
-    requires way { Suffices (table_machine table.now) steps pair.left pair.right pair.differed }
-    requires reached { Reached (table_machine table.now) ((table_machine table.now).count)
+    requires whole { IsWhole (machine_of table.now) distances.old.items }
+    requires way { Suffices (machine_of table.now) steps pair.left pair.right pair.differed }
+    requires reached { Reached (machine_of table.now) ((machine_of table.now).count)
         NONE steps distances.old.items waiting.old.items }
     ensures reached { OnOk result
-        (Reached (table_machine table.now) ((table_machine table.now).count) NONE steps distances.new.items waiting.new.items) }
-    ensures grows { OnOk result (Grows ((table_machine table.now).count) NONE distances.old.items distances.new.items) }
+        (Reached (machine_of table.now) ((machine_of table.now).count) NONE steps distances.new.items waiting.new.items) }
+    ensures grows { OnOk result (Grows ((machine_of table.now).count) NONE distances.old.items distances.new.items) }
     ensures room { OnOk result
         (room NONE distances.new.items waiting.new.items ≡ room NONE distances.old.items waiting.old.items) }
     ensures has { OnOk result
@@ -77,21 +77,21 @@ fn reach_by(
     pair: Pair,
     steps: u32,
 ) -> Result<(), OutOfMemory>
-    requires few { (table_machine table.now).count ≤ MOST_POINTS }
-    requires left { x.now.from < (table_machine table.now).count }
-    requires right { y.now.from < (table_machine table.now).count }
-    requires step { StepBy (table_machine table.now) x.now y.now pair }
+    requires few { (machine_of table.now).count ≤ MOST_POINTS }
+    requires left { x.now.from < (machine_of table.now).count }
+    requires right { y.now.from < (machine_of table.now).count }
+    requires step { StepBy (machine_of table.now) x.now y.now pair }
     requires small { steps < NONE }
-    requires whole { IsWhole (table_machine table.now) distances.old.items }
-    requires way { Follows (table_machine table.now) steps pair }
-    requires reached { Reached (table_machine table.now) ((table_machine table.now).count)
+    requires whole { IsWhole (machine_of table.now) distances.old.items }
+    requires way { Follows (machine_of table.now) steps pair }
+    requires reached { Reached (machine_of table.now) ((machine_of table.now).count)
         NONE steps distances.old.items waiting.old.items }
     ensures reached { OnOk result
-        (Reached (table_machine table.now) ((table_machine table.now).count) NONE steps distances.new.items waiting.new.items) }
-    ensures grows { OnOk result (Grows ((table_machine table.now).count) NONE distances.old.items distances.new.items) }
+        (Reached (machine_of table.now) ((machine_of table.now).count) NONE steps distances.new.items waiting.new.items) }
+    ensures grows { OnOk result (Grows ((machine_of table.now).count) NONE distances.old.items distances.new.items) }
     ensures room { OnOk result
         (room NONE distances.new.items waiting.new.items ≡ room NONE distances.old.items waiting.old.items) }
-    ensures has { OnOk result (IsCovered ((table_machine table.now).count) NONE distances.new.items x.now y.now pair) }
+    ensures has { OnOk result (IsCovered ((machine_of table.now).count) NONE distances.new.items x.now y.now pair) }
 {
     if x.bytes.meets(&y.bytes) {
         let same = pair.left == pair.right && x.mark == y.mark;
@@ -149,21 +149,21 @@ fn reach_from(
     pair: Pair,
     steps: u32,
 ) -> Result<(), OutOfMemory>
-    requires few { (table_machine table.now).count ≤ MOST_POINTS }
-    requires arrivals { Tell (table_machine table.now) (lists_of arrivals.now) pair }
-    requires left { pair.left < (table_machine table.now).count }
-    requires right { pair.right < (table_machine table.now).count }
+    requires few { (machine_of table.now).count ≤ MOST_POINTS }
+    requires arrivals { Tell (machine_of table.now) (lists_of arrivals.now) pair }
+    requires left { pair.left < (machine_of table.now).count }
+    requires right { pair.right < (machine_of table.now).count }
     requires small { steps < NONE }
-    requires whole { IsWhole (table_machine table.now) distances.old.items }
-    requires way { Follows (table_machine table.now) steps pair }
-    requires reached { Reached (table_machine table.now) ((table_machine table.now).count)
+    requires whole { IsWhole (machine_of table.now) distances.old.items }
+    requires way { Follows (machine_of table.now) steps pair }
+    requires reached { Reached (machine_of table.now) ((machine_of table.now).count)
         NONE steps distances.old.items waiting.old.items }
     ensures reached { OnOk result
-        (Reached (table_machine table.now) ((table_machine table.now).count) NONE steps distances.new.items waiting.new.items) }
-    ensures grows { OnOk result (Grows ((table_machine table.now).count) NONE distances.old.items distances.new.items) }
+        (Reached (machine_of table.now) ((machine_of table.now).count) NONE steps distances.new.items waiting.new.items) }
+    ensures grows { OnOk result (Grows ((machine_of table.now).count) NONE distances.old.items distances.new.items) }
     ensures room { OnOk result
         (room NONE distances.new.items waiting.new.items ≡ room NONE distances.old.items waiting.old.items) }
-    ensures has { OnOk result (AreBefore (table_machine table.now) NONE distances.new.items pair) }
+    ensures has { OnOk result (AreBefore (machine_of table.now) NONE distances.new.items pair) }
 {
     if pair.left != pair.right {
         if !pair.differed {
@@ -188,18 +188,18 @@ fn next_level(
     level: &[Pair],
     steps: u32,
 ) -> Result<Vec<Pair>, OutOfMemory>
-    requires few { (table_machine table.now).count ≤ MOST_POINTS }
-    requires marked { AreArrivals (table_machine table.now) true (lists_of marked.now) }
-    requires joined { AreArrivals (table_machine table.now) false (lists_of joined.now) }
+    requires few { (machine_of table.now).count ≤ MOST_POINTS }
+    requires marked { AreArrivals (machine_of table.now) true (lists_of marked.now) }
+    requires joined { AreArrivals (machine_of table.now) false (lists_of joined.now) }
     requires small { steps + 1 < NONE }
-    requires whole { IsWhole (table_machine table.now) distances.old.items }
-    requires reached { Reached (table_machine table.now) ((table_machine table.now).count)
+    requires whole { IsWhole (machine_of table.now) distances.old.items }
+    requires reached { Reached (machine_of table.now) ((machine_of table.now).count)
         NONE steps distances.old.items level.now }
     ensures reached { IfOk result
-        (λ next. Reached (table_machine table.now) ((table_machine table.now).count) NONE (steps + 1) distances.new.items next.items) }
-    ensures grows { OnOk result (Grows ((table_machine table.now).count) NONE distances.old.items distances.new.items) }
+        (λ next. Reached (machine_of table.now) ((machine_of table.now).count) NONE (steps + 1) distances.new.items next.items) }
+    ensures grows { OnOk result (Grows ((machine_of table.now).count) NONE distances.old.items distances.new.items) }
     ensures room { IfOk result (λ next. room NONE distances.new.items next.items ≡ room NONE distances.old.items []) }
-    ensures has { OnOk result (AllBefore (table_machine table.now) NONE distances.new.items level.now) }
+    ensures has { OnOk result (AllBefore (machine_of table.now) NONE distances.new.items level.now) }
 {
     let mut waiting = Vec::new(alloc);
     for pair in level {
@@ -215,32 +215,30 @@ fn first_level(
     table: &Table,
     distances: &mut Vec<u32>,
 ) -> Result<Vec<Pair>, OutOfMemory>
-    requires lawful { IsMachine (table_machine table.now) }
-    requires full { IsFull (written_of table.now) }
-    requires few { (table_machine table.now).count ≤ MOST_POINTS }
-    requires whole { IsWhole (table_machine table.now) distances.old.items }
-    requires none { (a b : ℕ) (d : Bool) → a < (table_machine table.now).count → b < (table_machine table.now).count →
+    requires lawful { IsMachine (machine_of table.now) }
+    requires few { (machine_of table.now).count ≤ MOST_POINTS }
+    requires whole { IsWhole (machine_of table.now) distances.old.items }
+    requires none { (a b : ℕ) (d : Bool) → a < (machine_of table.now).count → b < (machine_of table.now).count →
         steps_at distances.old.items a b d ≡ NONE }
-    ensures whole { OnOk result (IsWhole (table_machine table.now) distances.new.items) }
+    ensures whole { OnOk result (IsWhole (machine_of table.now) distances.new.items) }
     ensures reached { IfOk result
-        (λ next. Reached (table_machine table.now) ((table_machine table.now).count) NONE 0 distances.new.items next.items) }
+        (λ next. Reached (machine_of table.now) ((machine_of table.now).count) NONE 0 distances.new.items next.items) }
     ensures room { IfOk result (λ next. room NONE distances.new.items next.items ≡ room NONE distances.old.items []) }
     ensures has { OnOk result
-        (Complete (table_machine table.now) ((table_machine table.now).count) 0 distances.new.items) }
+        (Complete (machine_of table.now) ((machine_of table.now).count) 0 distances.new.items) }
 {
     let mut waiting = Vec::new(alloc);
-    let ends = &table.ends;
-    for left in 0..ends.len() {
-        if ends[left] {
-            for right in 0..ends.len() {
-                if ends[right] {
+    for left in 0..table.points() {
+        if table.is_end(left) {
+            for right in 0..table.points() {
+                if table.is_end(right) {
                     reach(
                         table,
                         distances,
                         &mut waiting,
                         Pair {
-                            left: left as u32,
-                            right: right as u32,
+                            left,
+                            right,
                             differed: true,
                         },
                         0,
@@ -254,14 +252,13 @@ fn first_level(
 
 /// The distances of a machine that is written out.
 pub(crate) fn distances_of(alloc: Global, table: &Table) -> Result<Vec<u32>, OutOfMemory>
-    requires lawful { IsMachine (table_machine table.now) }
-    requires full { IsFull (written_of table.now) }
-    requires few { (table_machine table.now).count ≤ MOST_POINTS }
+    requires lawful { IsMachine (machine_of table.now) }
+    requires few { (machine_of table.now).count ≤ MOST_POINTS }
     ensures exact { IfOk result
-        (λ ds. IsExact (table_machine table.now) ((table_machine table.now).count) NONE ds.items) }
-    ensures whole { IfOk result (λ ds. IsWhole (table_machine table.now) ds.items) }
+        (λ ds. IsExact (machine_of table.now) ((machine_of table.now).count) NONE ds.items) }
+    ensures whole { IfOk result (λ ds. IsWhole (machine_of table.now) ds.items) }
 {
-    let points = table.rows.len();
+    let points = table.points() as usize;
     let marked = arrivals_of(alloc, table, true)?;
     let joined = arrivals_of(alloc, table, false)?;
     let mut distances = vec![in alloc; NONE; points * (points + 1)]?;

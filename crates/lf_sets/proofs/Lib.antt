@@ -1,4 +1,3 @@
-pub mod Beginnings
 pub mod Joins
 pub mod Runs
 pub mod Levels

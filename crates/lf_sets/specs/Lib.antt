@@ -1,4 +1,2 @@
 pub mod Reached
 pub mod Forests
-pub mod Fork
-pub mod ForkLaws

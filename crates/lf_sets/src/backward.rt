@@ -5,7 +5,7 @@ ghost use Rattle.lf_sets.specs.Reached.{IsEndingRun};
 ghost use Rattle.lf_sets.specs.Forests.{point_at, HasPoint, IsTrail};
 
 use crate::forest::Node;
-use lf_core::{Marked, Move, OutOfMemory, Run};
+use lf_core::{Marked, Move, OutOfMemory};
 use std::alloc::Global;
 
 /// The place of a node of the level that begins at the place, of an end.
@@ -64,15 +64,4 @@ pub(crate) fn walk_back<M: Marked>(
         at = node.before;
     }
     Ok(points[at])
-}
-
-/// The run of the moves, of which the last stands first.
-pub(crate) fn turned(alloc: Global, back: &[Move]) -> Result<Run, OutOfMemory>
-    ensures { IfOk result (λ run. run ≡ reverse back.now) }
-{
-    let mut run = Run::new(alloc);
-    for k in 0..back.len() {
-        run.push(back[back.len() - 1 - k])?;
-    }
-    Ok(run)
 }

@@ -8,6 +8,3 @@ mod forward;
 mod reader;
 
 pub use reader::SetReader;
-
-#[cfg(test)]
-mod tests;

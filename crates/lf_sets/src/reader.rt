@@ -2,7 +2,7 @@
 ghost use Rattle.std.specs.Prelude.{◌≡◌, ◌<◌, List, Contains, MatchOption, IfOk};
 ghost use Rattle.lf_core.specs.Marked.{IsMachine, IsWholeRun};
 
-use crate::backward::{end_place, turned, walk_back};
+use crate::backward::{end_place, walk_back};
 use crate::blocks::{BLOCK, back_over, block_at, checkpoints};
 use crate::forward::Search;
 use lf_core::{Marked, OutOfMemory, Run};
@@ -36,6 +36,6 @@ impl SetReader {
             let block = block_at(line, at * BLOCK);
             point = back_over(m, &sets[at], block, point, &mut search, &mut back)?;
         }
-        Ok(Some(turned(alloc, &back)?))
+        Ok(Some(Run::turned(back)))
     }
 }

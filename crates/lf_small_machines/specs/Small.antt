@@ -21,5 +21,5 @@ moves_below flags at (suc number) = push_if (has_point flags (at + number)) numb
 abbrev pub small_moves : List Bool → ℕ → ℕ → List Move
 small_moves flags point byte = cond (ltb byte 256) (moves_below flags ((point * 256 + byte) * 12) 12) []
 
-abbrev pub small_machine : List Bool → List Bool → Machine
-small_machine flags ends = record { count = 6; first = 0; moves = small_moves flags; is_end = has_point ends }
+abbrev pub small_machine : ℕ → List Bool → List Bool → Machine
+small_machine start flags ends = record { count = 6; first = start; moves = small_moves flags; is_end = has_point ends }

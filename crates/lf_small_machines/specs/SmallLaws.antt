@@ -58,9 +58,9 @@ good_moves flags point byte = good_or_none (ltb byte 256) 12 _ (good_below flags
 no_byte : (flags : List Bool) (point byte : ℕ) → 256 ≤ byte → small_moves flags point byte ≡ []
 no_byte flags point byte h = let above : ltb byte 256 ≡ false = grind arith in rw above refl
 
-pub small_lawful : (flags ends : List Bool) → IsMachine (small_machine flags ends)
-small_lawful flags ends = record {
-  begins = omega arith;
+pub small_lawful : (start : ℕ) (flags ends : List Bool) → start < 6 → IsMachine (small_machine start flags ends)
+small_lawful start flags ends low = record {
+  begins = low;
   once = λ point byte h. (good_moves flags point byte).once;
   stays = λ point byte h. All-weaker (Contains (small_moves flags point byte)) (λ x. x.to < 6) (λ x at. ((good_moves flags point byte).each x at).1) _ (All-contains_itself (small_moves flags point byte));
   bytes = λ point byte h k. no_byte flags point byte k;

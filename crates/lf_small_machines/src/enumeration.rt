@@ -11,7 +11,7 @@ const PAIRS: usize = 72;
 const SHORTER: usize = 364;
 
 /// The place of a flagged pair in tables.
-fn place(left: u8, right: u8, differed: bool) -> usize {
+pub(crate) fn place(left: u8, right: u8, differed: bool) -> usize {
     (left as usize * 6 + right as usize) * 2 + differed as usize
 }
 
@@ -151,7 +151,10 @@ fn next_ways(
 /// The runs over the word from the start.
 fn ways_over(alloc: Global, m: &SmallMachine, word: &[u8]) -> Result<Vec<Way>, OutOfMemory> {
     let mut ways = Vec::new(alloc);
-    ways.push(Way { run: 0, point: 0 })?;
+    ways.push(Way {
+        run: 0,
+        point: m.start,
+    })?;
     for byte in word {
         ways = next_ways(alloc, m, &ways, *byte)?;
     }

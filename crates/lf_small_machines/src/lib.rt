@@ -1,8 +1,14 @@
-//! Tests alone: on small machines, distances and least lines are those of a plain enumeration.
+//! Tests alone: what is found of small machines, beside a plain enumeration and beside known answers.
 #![tactic(auto)]
 
 #[cfg(test)]
+mod answers;
+#[cfg(test)]
 mod enumeration;
+#[cfg(test)]
+mod forks;
+#[cfg(test)]
+mod known;
 #[cfg(test)]
 mod small_machines;
 #[cfg(test)]

@@ -1,7 +1,7 @@
 //! Machines of six points, by their moves.
-ghost use Rattle.std.specs.Prelude.{◌≡◌, ◌+◌, ◌*◌, OnOk};
+ghost use Rattle.std.specs.Prelude.{◌≡◌, ◌+◌, ◌*◌, ◌<◌, OnOk};
 ghost use Rattle.lf_witness.specs.Sets.{has_point};
-ghost use Rattle.lf_small_machines.specs.Small.{push_if, moves_below};
+ghost use Rattle.lf_small_machines.specs.Small.{move_of, push_if, moves_below};
 
 use lf_core::{Marked, Move, OutOfMemory};
 use smallvec::SmallVec;
@@ -33,9 +33,11 @@ impl Arc {
 /// A machine of six points. `flags` says of each point, byte and move whether `arcs` has it.
 #[derive(Drop)]
 pub(crate) struct SmallMachine {
+    pub(crate) start: u8,
     pub(crate) arcs: Vec<Arc>,
     flags: Vec<bool>,
     ends: Vec<bool>,
+    ghost begins: { start < 6 },
 }
 
 /// Whether the place is in the set.
@@ -52,15 +54,22 @@ pub(crate) fn put(set: &mut [bool], at: usize) {
     }
 }
 
+/// The move with this number.
+pub(crate) fn move_of(number: u32) -> Move
+    ensures { result ≡ move_of number }
+{
+    Move {
+        mark: number / 6,
+        to: number % 6,
+    }
+}
+
 /// Appends the move, if told so.
 fn push_if(flag: bool, number: u32, into: &mut SmallVec<Move, 4, Global>) -> Result<(), OutOfMemory>
     ensures { OnOk result (into.new.items ≡ push_if flag number into.old.items) }
 {
     if flag {
-        into.push(Move {
-            mark: number / 6,
-            to: number % 6,
-        })?;
+        into.push(move_of(number))?;
     }
     Ok(())
 }
@@ -83,8 +92,11 @@ fn list_moves(
 }
 
 impl SmallMachine {
-    pub(crate) fn new(alloc: Global) -> Result<SmallMachine, OutOfMemory> {
+    pub(crate) fn new(alloc: Global, start: u8) -> Result<SmallMachine, OutOfMemory>
+        requires { start < 6 }
+    {
         Ok(SmallMachine {
+            start,
             arcs: Vec::new(alloc),
             flags: vec![in alloc; false; 6 * 256 * 12]?,
             ends: vec![in alloc; false; 6]?,
@@ -111,14 +123,14 @@ impl Marked for SmallMachine {
     ghost use Rattle.lf_small_machines.specs.Small.{small_machine};
     ghost use Rattle.lf_small_machines.specs.SmallLaws.{small_lawful};
 
-    ghost machine = { λ m. small_machine m.flags.items m.ends.items };
+    ghost machine = { λ m. small_machine m.start m.flags.items m.ends.items };
 
     fn points(&self) -> u32 {
         6
     }
 
     fn start(&self) -> u32 {
-        0
+        self.start as u32
     }
 
     fn moves(
@@ -138,7 +150,7 @@ impl Marked for SmallMachine {
         has(&self.ends, point as usize)
     }
 
-    ghost laws = { λ m. small_lawful m.flags.items m.ends.items };
+    ghost laws = { λ m. small_lawful m.start m.flags.items m.ends.items m.begins };
 }
 
 /// Numbers that look random, the same in each run.
@@ -200,7 +212,7 @@ pub(crate) fn random_machine(
     random: &mut Random,
     percent: u64,
 ) -> Result<SmallMachine, OutOfMemory> {
-    let mut m = SmallMachine::new(alloc)?;
+    let mut m = SmallMachine::new(alloc, 0)?;
     for from in 0..POINTS {
         add_point(&mut m, random, percent, from)?;
     }

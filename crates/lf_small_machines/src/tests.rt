@@ -1,28 +1,13 @@
-ghost use Rattle.std.specs.Prelude.{◌≡◌, IfOk};
+ghost use Rattle.std.specs.Prelude.{◌≡◌};
 ghost use Rattle.lf_core.specs.Written.{machine_of};
 
-use crate::enumeration::{Found, first_word, number_of, plain_distances, words};
+use crate::answers::{pairs_of, witness_of};
+use crate::enumeration::{Found, first_word, number_of, place, plain_distances, words};
 use crate::small_machines::{LETTERS, Random, SmallMachine, random_machine};
 use lf_core::{Bytes, OutOfMemory};
-use lf_product::{Pairs, distances};
-use lf_witness::{Witness, least, least_from};
+use lf_product::Pairs;
+use lf_witness::{Witness, least_from};
 use std::alloc::Global;
-
-/// The least witness of the small machine, where there is one.
-fn witness_of(alloc: Global, m: &SmallMachine) -> Result<Option<Witness>, OutOfMemory> {
-    let pairs = distances(alloc, m)?;
-    if !pairs.ambiguous() {
-        return Ok(None);
-    }
-    Ok(Some(least(alloc, m, &pairs)?))
-}
-
-/// The pairs of the small machine.
-fn pairs_of(alloc: Global, m: &SmallMachine) -> Result<Pairs, OutOfMemory>
-    ensures { IfOk result (λ pairs. (machine_of pairs).count ≡ 6) }
-{
-    distances(alloc, m)
-}
 
 /// Whether each flagged pair has this distance.
 fn have_distances(pairs: &Pairs, plain: &[Option<u32>]) -> bool
@@ -98,7 +83,8 @@ fn agrees(alloc: Global, m: &SmallMachine, words: &[Bytes]) -> Result<bool, OutO
     }
     let witness = witness_of(alloc, m)?;
     let found = first_word(alloc, m, words, &[], 2)?;
-    Ok(is_least(&witness, &found, plain.first().copied().flatten()))
+    let whole = place(m.start, m.start, false);
+    Ok(is_least(&witness, &found, plain.get(whole).copied().flatten()))
 }
 
 /// Whether so many random machines do as the enumeration says.

@@ -1,6 +1,10 @@
-//! Tests alone: the lines of all small streams in each cutting are those of the definition.
+//! Tests alone: the lines of streams, beside the definition and beside known answers.
 #![tactic(auto)]
 
+#[cfg(test)]
+mod feeding;
+#[cfg(test)]
+mod known;
 #[cfg(test)]
 mod plain;
 #[cfg(test)]

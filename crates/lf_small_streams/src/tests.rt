@@ -1,20 +1,11 @@
 ghost use Rattle.std.specs.Prelude.{◌≡◌, ◌≤◌, false};
 ghost use Rattle.lf_stream.specs.Standing.{is_finished};
 
+use crate::feeding::feed;
 use crate::plain::plain_lines;
 use lf_core::{Bytes, OutOfMemory};
-use lf_stream::{Body, Lines, MOST_FED, Numbered};
+use lf_stream::{Body, Lines, Numbered};
 use std::alloc::Global;
-
-/// Feeds a piece, if it fits.
-fn feed(lines: &mut Lines, piece: &[u8])
-    requires { is_finished lines.old ≡ false }
-    ensures { is_finished lines.new ≡ false }
-{
-    if piece.len() <= lines.room() && piece.len() as u64 <= MOST_FED - lines.fed() {
-        lines.feed(piece);
-    }
-}
 
 /// Whether the line is the one at this place of the list, and has the number.
 fn is_line(next: &Numbered<'_>, notes: bool, plain: &[Bytes], at: usize, number: u64) -> bool {

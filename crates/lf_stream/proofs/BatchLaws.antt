@@ -92,10 +92,6 @@ marked_all old now count text h low none stream n s =
     let is : length (known_lines old.finished old.notes stream) ≡ n + count = next_of old now stream count text (n + count) None h.moves (none stream (n + count) (h.moves.stands stream n s)) in
     omega (arith, is, low)
 
--- As many lines as there are marks.
-pub marked_many : (old now : Lines) (count : ℕ) → Marked old now count → 0 < count → MOST_MARKS ≤ count → count ≤ MOST_MARKS → (stream : List ℕ) (n : ℕ) → Stands old stream n → count ≡ min (length (known_lines old.finished old.notes stream) - n) MOST_MARKS
-marked_many old now count h some high low stream n s = omega (arith, h.enough stream n s some)
-
 -- The marks, where the text is that of the end.
 pub marked_text : (old now : Lines) (count : ℕ) (text : List ℕ) (marks : List Mark) → Marked old now count → text ≡ now.buffer.bytes.items → marks ≡ take count now.marks.items → (stream : List ℕ) (n : ℕ) → Stands old stream n → AreNextMarks old.notes text (known_lines old.finished old.notes stream) n marks
 marked_text old now count text marks h same are stream n s =

@@ -1,10 +1,9 @@
 -- Parts of a list, from one place up to another.
 use Rattle.std.proofs.Common.{Vec, ◌≡◌, ℕ, ◌+◌, ◌-◌, ◌<◌, ◌≤◌, List, ◌∷◌, ◌++◌, length, get_or, take, drop, refl, sym, ◌∙◌, ap, arith, append_assoc, length-append}
-use Rattle.std.specs.List.{slice_range, copy_within}
-use Rattle.std.proofs.lemmas.List.{drop-append-le, take_at, length-take-le, drop_more, append_cancel_right, length-drop, with_items_is}
+use Rattle.std.specs.List.{slice_range}
+use Rattle.std.proofs.lemmas.List.{drop-append-le, length-take-le, drop_more, append_cancel_right, length-drop, with_items_is}
 use Rattle.std.proofs.lemmas.List.Folds.{drop_split}
-use Rattle.std.proofs.lemmas.List.Edits.{length-between}
-use Rattle.std.proofs.lemmas.Slice.{between_is, between_from_start, take-put_mid, take-put_mid_below}
+use Rattle.std.proofs.lemmas.Slice.{between_is, take-put_mid, take-put_mid_below}
 use Rattle.std.specs.Vec.{with_items}
 use borrow.Rule.Slice.PartMut.{put_mid}
 
@@ -38,11 +37,6 @@ pub span_first : (xs : List ℕ) (i k : ℕ) → i < k → k ≤ length xs → s
 span_first xs i k low high =
     append_cancel_right (slice_range xs i k) (get_or xs i 0 ∷ slice_range xs (i + 1) k) (drop k xs)
     (sym (drop_split xs i k (omega arith)) ∙ drop_more xs i 0 (omega arith) ∙ ap (λ zs. get_or xs i 0 ∷ zs) (drop_split xs (i + 1) k (omega arith)))
-
--- What was moved to the front.
-pub span_moved : (xs : List ℕ) (s e : ℕ) → s ≤ e → e ≤ length xs → slice_range (copy_within xs s e 0) 0 (e - s) ≡ slice_range xs s e
-span_moved xs s e low high =
-    between_from_start (copy_within xs s e 0) (e - s) ∙ take_at (slice_range xs s e) (drop (0 + (e - s)) xs) (e - s) (length-between xs s e high)
 
 -- A list of bytes was written over by a piece, from a place on.
 pub record Puts (old new : List ℕ) (at : ℕ) (piece : List ℕ) : Type 0 where

@@ -10,6 +10,3 @@ mod marks;
 pub use limits::{LEAST_ROOM, LINE, MOST_FED, MOST_MARKS};
 pub use lines::Lines;
 pub use marks::{Batch, Body, Mark, Numbered, Sort};
-
-#[cfg(test)]
-mod tests;

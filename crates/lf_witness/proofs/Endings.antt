@@ -5,7 +5,7 @@ use Rattle.std.proofs.lemmas.List.{drop_more}
 use Rattle.lf_core.specs.declared.marked.Move.{Move}
 use Rattle.lf_core.specs.Marked.{Machine, IsMachine, IsRun, stop}
 use Rattle.lf_core.proofs.WrittenLaws.{move_stays}
-use Rattle.lf_witness.specs.Sets.{CanEnd, has_point, LeadsInto, AreBefore, AreEnding}
+use Rattle.lf_witness.specs.Sets.{CanEnd, AreBefore, AreEnding}
 
 pub end_from_none : (m : Machine) (p : ℕ) → CanEnd m [] p → m.is_end p ≡ true
 end_from_none m p ([], (h, e)) = e
@@ -13,13 +13,6 @@ end_from_none m p (x ∷ xs, (h, e)) = absurd h
 
 pub none_from_end : (m : Machine) (p : ℕ) → m.is_end p ≡ true → CanEnd m [] p
 none_from_end m p h = ([], (tt, h))
-
-pub ends_are : (m : Machine) (set : List Bool) → length set ≡ m.count → ((p : ℕ) → p < m.count → has_point set p ≡ m.is_end p) → AreEnding m [] set
-ends_are m set len same = record {
-  each_point = len;
-  reach = λ p lt h. none_from_end m p (sym (same p lt) ∙ h);
-  all = λ p lt h. same p lt ∙ end_from_none m p h;
-}
 
 pub end_by : (m : Machine) (c : ℕ) (cs : List ℕ) (p : ℕ) (x : Move) → Contains (m.moves p c) x → CanEnd m cs x.to → CanEnd m (c ∷ cs) p
 end_by m c cs p x h (run, (runs, e)) = (x ∷ run, ((h, runs), e))
@@ -45,13 +38,6 @@ run_push moves (c ∷ cs) (y ∷ ys) a p b x r e h = (r.0, run_push moves cs ys 
 pub stop_push : (run : List Move) (a : ℕ) (x : Move) → stop a (run ++ x ∷ []) ≡ x.to
 stop_push [] a x = refl
 stop_push (y ∷ ys) a x = stop_push ys y.to x
-
--- where an end is reached over the rest, some move leads into the next set
-pub onward_some : (m : Machine) (line : List ℕ) (i p : ℕ) (after : List Bool) → IsMachine m → i < length line → p < m.count → CanEnd m (drop i line) p → AreEnding m (drop (i + 1) line) after → LeadsInto (m.moves p (get_or line i 0)) after
-onward_some m line i p after lawful lt hp h are =
-    let h' : CanEnd m (get_or line i 0 ∷ drop (i + 1) line) p = subst (λ (bs : List ℕ). CanEnd m bs p) (drop_more line i 0 lt) h in
-    let e = end_on m (get_or line i 0) (drop (i + 1) line) p h' in
-    (e.0, e.1, are.all e.0.to (move_stays m p (get_or line i 0) e.0 lawful hp e.1) e.2)
 
 -- one set more
 pub sets_more : (m : Machine) (line : List ℕ) (k : ℕ) (after set : List Bool) → IsMachine m → k < length line → AreEnding m (drop (length line - k) line) after → AreBefore m (get_or line (length line - 1 - k) 0) after set → AreEnding m (drop (length line - (k + 1)) line) set

@@ -2,7 +2,6 @@ pub mod Shares
 pub mod LineSteps
 pub mod Lists
 pub mod SameLines
-pub mod Beginnings
 pub mod Endings
 pub mod OpenLaws
 pub mod RunSteps

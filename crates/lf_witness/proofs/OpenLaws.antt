@@ -5,7 +5,6 @@ use Rattle.std.proofs.lemmas.List.Elements.{Contains-push_cases, Contains-append
 use Rattle.lf_core.specs.declared.marked.Move.{Move}
 use Rattle.lf_witness.specs.Runs.{MoveLt, MoveLe}
 use Rattle.lf_witness.specs.Open.{IsOpen, IsLeast, IsLeastOpen}
-use Rattle.lf_witness.proofs.Lists.{contains_none}
 
 move_lt_trans : (x y z : Move) → MoveLt x y → MoveLt y z → MoveLt x z
 move_lt_trans x y z (inl a) (inl b) = inl (omega (arith, a, b))
@@ -17,9 +16,6 @@ pub move_le_trans : (x y z : Move) → MoveLe x y → MoveLe y z → MoveLe x z
 move_le_trans x y z (inl a) (inl b) = inl (move_lt_trans x y z a b)
 move_le_trans x y z (inl a) (inr e) = inl (subst (λ (w : Move). MoveLt x w) e a)
 move_le_trans x y z (inr e) b = subst (λ (w : Move). MoveLe w z) (sym e) b
-
-pub open_none : (after : List Bool) (but : Option Move) → IsLeastOpen [] after but None
-open_none after but = λ y h o. contains_none y h
 
 contains_last : (seen : List Move) (x : Move) → Contains (seen ++ x ∷ []) x
 contains_last seen x = Contains-append_right seen (x ∷ []) x (zero_here x)

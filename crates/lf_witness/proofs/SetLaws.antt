@@ -3,10 +3,7 @@ use Rattle.std.proofs.Common.{◌≡◌, ℕ, ◌+◌, ◌-◌, ◌<◌, ◌≤�
 use Rattle.std.specs.declared.alloc.Global.{Global}
 use Rattle.std.proofs.lemmas.List.{drop-drop, length-drop}
 use Rattle.lf_core.specs.Marked.{Machine}
-use Rattle.lf_witness.specs.Sets.{AreEnding, AreSets, SetsFor}
-
-pub sets_whole : (m : Machine) (line : List ℕ) (sets : List (Vec Bool Global)) → AreSets m line sets → SetsFor m line sets
-sets_whole m line sets h = record { len = omega (arith, h.len); each = h.each }
+use Rattle.lf_witness.specs.Sets.{AreEnding, SetsFor}
 
 -- the set for what follows the byte at this place
 pub set_after : (m : Machine) (line : List ℕ) (sets : List (Vec Bool Global)) (i : ℕ) (v : Vec Bool Global) (set : List Bool) → SetsFor m line sets → i < length line → v ≡ get_or sets (length line - 1 - i) v → set ≡ v.items → AreEnding m (drop (i + 1) line) set

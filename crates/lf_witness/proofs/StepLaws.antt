@@ -1,22 +1,11 @@
 -- The numbers of the points, round by round.
-use Rattle.std.proofs.Common.{◌≡◌, ℕ, zero, suc, ◌+◌, ◌<◌, ◌≤◌, ◌⊎◌, inl, inr, List, [], ◌∷◌, ◌++◌, Option, None, Some, length, refl, sym, ◌∙◌, subst, arith, count_by, is_none, cond, zero-add, add-one, Bool, true, false}
+use Rattle.std.proofs.Common.{◌≡◌, ℕ, zero, suc, ◌+◌, ◌<◌, ◌≤◌, ◌⊎◌, inl, inr, List, [], ◌∷◌, Option, None, Some, length, refl, sym, ◌∙◌, subst, arith, count_by, is_none, cond, zero-add, add-one, Bool, true, false}
 use Rattle.std.proofs.lemmas.Bool.{cases_lt}
-use Rattle.std.proofs.lemmas.List.{get_or_append_left, get_or_push}
 use Rattle.std.specs.Prelude.{IsTrue}
 use Rattle.std.proofs.lemmas.List.Sums.{sum_by-cons}
 use Rattle.lf_core.specs.Marked.{Machine, IsMachine}
 use Rattle.lf_core.proofs.WrittenLaws.{move_stays}
 use Rattle.lf_witness.specs.Steps.{EndsIn, IsSteps, told, AreSteps, IsKnown, AreKnown, Leads, IsReached, IsRound}
-
--- what is told of each point, with one point more
-pub told_push : (P : ℕ → Option ℕ → Type 0) (xs : List (Option ℕ)) (x : Option ℕ) (n : ℕ) → length xs ≡ n → ((p : ℕ) → p < n → P p (told xs p)) → P n x → (p : ℕ) → p < n + 1 → P p (told (xs ++ x ∷ []) p)
-told_push P xs x n is each here = λ p lt.
-    elim (cases_lt p n) [
-      | inl low ↦ subst (P p) (sym (get_or_append_left xs (x ∷ []) None p (omega (arith, is, low)))) (each p low)
-      | inr ge ↦
-          let e : n ≡ p = omega (arith, lt, ge) in
-          subst (λ (q : ℕ). P q (told (xs ++ x ∷ []) q)) e (subst (P n) (sym (get_or_push xs x None n is)) here)
-    ]
 
 option_cases : (o : Option ℕ) → (o ≡ None) ⊎ ((n : ℕ) × (o ≡ Some n))
 option_cases None = inl refl

@@ -6,5 +6,3 @@ pub mod Steps
 pub mod Shared
 pub mod Heads
 pub mod Least
-pub mod Fork
-pub mod ForkLaws

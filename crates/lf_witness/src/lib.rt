@@ -14,6 +14,3 @@ mod witness;
 
 pub use heads::{Headed, least_from};
 pub use witness::{Witness, least};
-
-#[cfg(test)]
-mod tests;

@@ -7,12 +7,6 @@ use Rattle.lf_words.specs.Command.{Given, value_of, has_option, option_words, Ar
 use Rattle.lf_words.specs.Reading.{pairs, AreOptionWords, IsNoJobs}
 use Rattle.lf_words.specs.declared.command.Verb.{Verb}
 
--- Two words and the others.
-pub words_two : (ws : List (List ℕ)) (a b : List ℕ) → 2 ≤ length ws → a ≡ get_or ws 0 a → b ≡ get_or ws 1 b → ws ≡ a ∷ b ∷ drop 2 ws
-words_two [] a b len x y = absurd (omega (arith, len))
-words_two (p ∷ []) a b len x y = absurd (omega (arith, len))
-words_two (p ∷ q ∷ ws) a b len x y = cc
-
 pub words_pair : (ws : List (List ℕ)) (a : List ℕ) → 2 ≤ length ws → a ≡ get_or ws 0 a → ws ≡ a ∷ get_or ws 1 [] ∷ drop 2 ws
 words_pair [] a len x = absurd (omega (arith, len))
 words_pair (p ∷ []) a len x = absurd (omega (arith, len))

@@ -123,24 +123,16 @@ fn text_of(alloc: Global, part: &str) -> Result<String, OutOfMemory> {
 /// A run as a row says.
 fn row_example<R: Threads + Sync>(rt: &R, alloc: Global, row: &str) -> Result<(), Fail> {
     let mut parts = row.split('¦');
-    let words = text_of(alloc, parts.next().unwrap_or(""))
-        .ok()
-        .ok_or("memory")?;
-    let input = text_of(alloc, parts.next().unwrap_or(""))
-        .ok()
-        .ok_or("memory")?;
+    let words = text_of(alloc, parts.next().unwrap_or(""))?;
+    let input = text_of(alloc, parts.next().unwrap_or(""))?;
     let status = parts
         .next()
         .unwrap_or("")
         .parse::<u8>()
         .ok()
         .ok_or("no status")?;
-    let out = text_of(alloc, parts.next().unwrap_or(""))
-        .ok()
-        .ok_or("memory")?;
-    let err = text_of(alloc, parts.next().unwrap_or(""))
-        .ok()
-        .ok_or("memory")?;
+    let out = text_of(alloc, parts.next().unwrap_or(""))?;
+    let err = text_of(alloc, parts.next().unwrap_or(""))?;
     example(
         rt,
         alloc,

@@ -27,12 +27,8 @@ const EACH_SLOT: &str =
 
 #[test]
 fn each_directive_is_shown(rt: HostRuntime) -> Result<(), Fail> {
-    let words = apache_words(rt.alloc(), "show", EACH_DIRECTIVE)
-        .ok()
-        .ok_or("out of memory")?;
-    let seen = run_bytes(&rt, rt.alloc(), &words, Bytes::new(rt.alloc()), SOUND)
-        .ok()
-        .ok_or("out of memory")?;
+    let words = apache_words(rt.alloc(), "show", EACH_DIRECTIVE)?;
+    let seen = run_bytes(&rt, rt.alloc(), &words, Bytes::new(rt.alloc()), SOUND)?;
     assert!(rt; expect(&seen, 0, EACH_SLOT, "").is_ok());
     Ok(())
 }
@@ -149,18 +145,14 @@ fn apache_words(alloc: Global, verb: &str, format: &str) -> Result<Vec<Str>, Out
 
 #[test]
 fn long_lines(rt: HostRuntime) -> Result<(), Fail> {
-    let bytes = long_text(rt.alloc()).ok().ok_or("out of memory")?;
+    let bytes = long_text(rt.alloc())?;
     let streams = Streams {
         piece: 100_000,
         taken: 1_000_000,
         ..SOUND
     };
-    let words = apache_words(rt.alloc(), "read", "%h")
-        .ok()
-        .ok_or("out of memory")?;
-    let seen = run_bytes(&rt, rt.alloc(), &words, bytes, streams)
-        .ok()
-        .ok_or("out of memory")?;
+    let words = apache_words(rt.alloc(), "read", "%h")?;
+    let seen = run_bytes(&rt, rt.alloc(), &words, bytes, streams)?;
     assert_eq!(rt; seen.out.len(), LINE + 5);
     assert_eq!(rt; seen.err.as_slice(), b"long 2\nunread 3\n".as_slice());
     assert_eq!(rt; seen.status, 3);
@@ -169,13 +161,9 @@ fn long_lines(rt: HostRuntime) -> Result<(), Fail> {
 
 #[test]
 fn long_lines_of_json(rt: HostRuntime) -> Result<(), Fail> {
-    let bytes = long_text(rt.alloc()).ok().ok_or("out of memory")?;
-    let words = apache_words(rt.alloc(), "write", "%h")
-        .ok()
-        .ok_or("out of memory")?;
-    let seen = run_bytes(&rt, rt.alloc(), &words, bytes, SOUND)
-        .ok()
-        .ok_or("out of memory")?;
+    let bytes = long_text(rt.alloc())?;
+    let words = apache_words(rt.alloc(), "write", "%h")?;
+    let seen = run_bytes(&rt, rt.alloc(), &words, bytes, SOUND)?;
     let err = "bad 1 NotJson\nlong 2\nbad 3 NotJson\n";
     assert!(rt; expect(&seen, 3, "", err).is_ok());
     Ok(())
@@ -200,25 +188,17 @@ fn shown_letters<R: Threads + Sync>(
 
 #[test]
 fn formats_of_many_letters(rt: HostRuntime) -> Result<(), Fail> {
-    let seen = shown_letters(&rt, rt.alloc(), LINE)
-        .ok()
-        .ok_or("out of memory")?;
+    let seen = shown_letters(&rt, rt.alloc(), LINE)?;
     assert!(rt; expect(&seen, 0, "", "").is_ok());
-    let seen = shown_letters(&rt, rt.alloc(), LINE + 1)
-        .ok()
-        .ok_or("out of memory")?;
+    let seen = shown_letters(&rt, rt.alloc(), LINE + 1)?;
     assert!(rt; expect(&seen, 2, "", "logfmt: bad command line\n").is_ok());
     Ok(())
 }
 
 #[test]
 fn a_line_feed_in_a_format(rt: HostRuntime) -> Result<(), Fail> {
-    let words = apache_words(rt.alloc(), "check", "%s\n")
-        .ok()
-        .ok_or("out of memory")?;
-    let seen = run_bytes(&rt, rt.alloc(), &words, Bytes::new(rt.alloc()), SOUND)
-        .ok()
-        .ok_or("out of memory")?;
+    let words = apache_words(rt.alloc(), "check", "%s\n")?;
+    let seen = run_bytes(&rt, rt.alloc(), &words, Bytes::new(rt.alloc()), SOUND)?;
     let err = "logfmt: source format: LineBreak at 2\n";
     assert!(rt; expect(&seen, 2, "", err).is_ok());
     Ok(())

@@ -1,7 +1,9 @@
 -- A machine's moves in one list, cell by cell.
-use Rattle.std.specs.Prelude.{◌≡◌, ℕ, ◌+◌, ◌*◌, ◌/◌, ◌%◌, ◌<◌, ◌≤◌, List, Bool, false, length, slice_index_or, slice_range}
+use Rattle.std.specs.Prelude.{◌≡◌, ℕ, ◌+◌, ◌*◌, ◌/◌, ◌%◌, ◌<◌, ◌≤◌, List, Bool, length, map, slice_index_or, slice_range}
+use Rattle.std.specs.List.{range_with_len}
 use Rattle.lf_core.specs.declared.marked.Move.{Move}
 use Rattle.lf_core.specs.Marked.{Machine}
+use Rattle.lf_core.specs.Written.{WrittenMachine}
 
 -- where a cell's moves begin
 abbrev pub start_of : List ℕ → ℕ → ℕ
@@ -23,14 +25,21 @@ pub record AreCells (machine : Machine) (starts : List ℕ) (moves : List Move) 
   pub next : start_of starts many ≡ length moves
   pub cells : (cell : ℕ) → cell < many → IsCell machine starts moves cell
 
--- By point, whether it is an end, for the first points, so many.
-pub record AreEnds (machine : Machine) (ends : List Bool) (many : ℕ) : Type 0 where
-  pub each : length ends ≡ many
-  pub same : (point : ℕ) → point < many → slice_index_or ends point false ≡ machine.is_end point
+-- the moves from a point, byte by byte
+abbrev pub row_in : List ℕ → List Move → ℕ → List (List Move)
+row_in starts moves point = map (λ byte. moves_in starts moves (point * 256 + byte)) (range_with_len 0 256)
 
--- The machine is written out: the number of its points, its start, a cell for each point and byte, and for each point whether it is an end.
-pub record IsWrittenOut (machine : Machine) (points start : ℕ) (starts : List ℕ) (moves : List Move) (flags : List Bool) : Type 0 where
-  pub many : points ≡ machine.count
-  pub first : start ≡ machine.first
-  pub cells : AreCells machine starts moves (machine.count * 256)
-  pub ends : AreEnds machine flags machine.count
+-- what so many points, a start, cells and ends write out
+abbrev pub laid_out : ℕ → ℕ → List ℕ → List Move → List Bool → WrittenMachine
+laid_out points first starts moves flags = record {
+  start = first;
+  rows = map (row_in starts moves) (range_with_len 0 points);
+  ends = flags;
+}
+
+-- There are 256 cells for each point, each one's moves stand in the list, and each point says whether it is an end.
+pub record AreLaid (points : ℕ) (starts : List ℕ) (moves : List Move) (flags : List Bool) : Type 0 where
+  pub each_cell : length starts ≡ points * 256 + 1
+  pub each_point : length flags ≡ points
+  pub ordered : (cell : ℕ) → cell < points * 256 → start_of starts cell ≤ start_of starts (cell + 1)
+  pub within : (cell : ℕ) → cell < points * 256 → start_of starts (cell + 1) ≤ length moves

@@ -1,7 +1,7 @@
 //! A machine's moves in one list.
-ghost use Rattle.std.specs.Prelude.{◌≡◌, ℕ, ◌<◌, ◌*◌, ◌++◌, [], ◌∷◌, length, OnOk, IfOk};
+ghost use Rattle.std.specs.Prelude.{◌≡◌, ℕ, ◌<◌, ◌≤◌, ◌+◌, ◌*◌, ◌++◌, [], ◌∷◌, length, OnOk, IfOk};
 ghost use Rattle.lf_core.specs.Marked.{Machine};
-ghost use Rattle.lf_written.specs.Cells.{AreCells};
+ghost use Rattle.lf_written.specs.Cells.{start_of, moves_in, AreCells};
 
 use lf_core::{Marked, Move, OutOfMemory};
 use smallvec::SmallVec;
@@ -13,6 +13,20 @@ use std::alloc::Global;
 pub(crate) struct Cells {
     pub(crate) starts: Vec<usize>,
     pub(crate) moves: Vec<Move>,
+}
+
+impl Cells {
+    /// The moves of the cell.
+    pub(crate) fn at(&self, cell: usize) -> &[Move]
+        requires among { cell + 1 < length self.now.starts.items }
+        requires ordered { start_of self.now.starts.items cell ≤ start_of self.now.starts.items (cell + 1) }
+        requires within { start_of self.now.starts.items (cell + 1) ≤ length self.now.moves.items }
+        ensures { result.now ≡ moves_in self.now.starts.items self.now.moves.items cell }
+    {
+        let from = self.starts[cell];
+        let to = self.starts[cell + 1];
+        &self.moves[from..to]
+    }
 }
 
 /// No cell: the next one's start alone.

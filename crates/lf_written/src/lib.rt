@@ -2,9 +2,8 @@
 #![tactic(auto)]
 
 mod cells;
+mod table;
 mod written;
 
+pub use table::Table;
 pub use written::Written;
-
-#[cfg(test)]
-mod tests;

@@ -80,9 +80,6 @@ Opened _ = Unit {0}
 
 -- ---- one byte more
 
-none_strings : (place : ℕ) → strings_given place [] ≡ []
-none_strings place = refl
-
 ended_body : (place : ℕ) (text : List ℕ) (given : List Placed) → EndOn text given → Body place (59 ∷ text) given
 ended_body place text given h = record { strings = []; tail = []; end = text; are = tt; tail_white = refl; end_white = h.white; text_is = refl; given_is = h.none }
 

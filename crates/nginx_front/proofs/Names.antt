@@ -22,7 +22,7 @@ use Rattle.lf_format.specs.declared.front.Given.TheVariants.{Slot}
 use Rattle.nginx_front.specs.declared.front.Nginx.{Nginx}
 use Rattle.nginx_front.specs.declared.table.Escape.{Escape}
 use Rattle.nginx_front.specs.Variables.{is_word, is_name, is_inside, spelling, braced_spelling, slot_of}
-use Rattle.nginx_front.specs.Reading.{found, on_name, on_bare, on_closed, on_braced, on_dollar, Gives, GivesName}
+use Rattle.nginx_front.specs.Reading.{found, on_name, on_bare, on_closed, on_braced, Gives, GivesName}
 use Rattle.nginx_front.specs.FoundLaws.{closed_parts}
 
 -- a name that is spelled in so many bytes, and what follows
@@ -78,15 +78,6 @@ braced_gives escape text name (b ∷ after) len result is shut some size h =
 pub open_fails : (state : Nginx) (text closed : List ℕ) → closed ≡ past is_inside text → eqb (length closed) 0 ≡ true → on_braced state text ≡ Failed Unclosed
 open_fails state text [] shut none = ap (on_closed state (run is_inside text)) (sym shut)
 open_fails state text (b ∷ after) shut none = absurd (let wrong : false ≡ true = sym (eqb-suc-zero (length after)) ∙ none in cc)
-
--- without a brace the name is bare
-pub dollar_bare : (state : Nginx) (text : List ℕ) (b : ℕ) (rest : List ℕ) → text ≡ b ∷ rest → eqb b 123 ≡ false → on_bare state text ≡ on_dollar state text
-dollar_bare state text b rest is other = sym (ap (on_dollar state) is ∙ ap (λ v. cond v (on_braced state rest) (on_bare state (b ∷ rest))) other ∙ ap (on_bare state) (sym is))
-
-pub dollar_braced : (state : Nginx) (text : List ℕ) (b : ℕ) (rest : List ℕ) → text ≡ b ∷ rest → b ≡ 123 → (on_braced state rest ≡ on_dollar state text) × (text ≡ 123 ∷ rest)
-dollar_braced state text b rest is brace =
-    let whole : text ≡ 123 ∷ rest = is ∙ ap (λ (n : ℕ). n ∷ rest) brace in
-    (ap (on_dollar state) (sym whole), whole)
 
 pub name_is : (name : List ℕ) → eqb (length name) 0 ≡ false → list_all is_word name ≡ is_name name
 name_is [] some = absurd cc

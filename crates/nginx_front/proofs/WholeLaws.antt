@@ -119,13 +119,6 @@ module _ (each : EachAnswer) (text : List ℕ) where
 
 -- ---- what is answered
 
--- a directive that is broken in its parts
-pub broken_only_spelled : (text : List ℕ) (place : ℕ) (cause : Cause) (format : Shape) → says text ≡ Broken place cause → SpellsDirective text format → AnswersFormat format (Err (fault.At place cause))
-broken_only_spelled text place cause format is d = not_broken text d.escape d.given place cause d.says_so is
-
-pub broken_only_faulty : (text : List ℕ) (place : ℕ) (cause : Cause) (p : ℕ) (c : Cause) → says text ≡ Broken place cause → FaultyDirective text p c → AnswersFault p c (Err (fault.At place cause))
-broken_only_faulty text place cause p c is h = let same = fault_parts text place p cause c is h in (sym same.0, sym same.1)
-
 abbrev fault_place : {X : Type 0} → Result X FormatFault → ℕ
 fault_place (Ok x) = 0
 fault_place (Err (fault.At place cause)) = place

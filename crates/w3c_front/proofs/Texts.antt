@@ -1,7 +1,7 @@
 -- An identifier that stands for a field is text.
-use Rattle.std.proofs.Common.{◌≡◌, ℕ, ◌<◌, ◌≤◌, Bool, true, false, cond, not, ◌&&◌, eqb, ltb, List, [], ◌∷◌, ◌++◌, length, take, drop, Option, Some, None, Result, Ok, Err, refl, sym, ap, subst, ◌∙◌, length-append, append-nil, arith, inl, inr}
+use Rattle.std.proofs.Common.{◌≡◌, ℕ, ◌<◌, Bool, true, false, cond, not, ◌&&◌, eqb, ltb, List, [], ◌∷◌, ◌++◌, length, take, drop, Option, Some, None, Ok, refl, sym, ap, subst, ◌∙◌, length-append, append-nil, arith, inl, inr}
 use Rattle.std.specs.Prelude.{nat_eq, codes}
-use Rattle.std.specs.List.{list_all, list_any, prefix_len, starts_with}
+use Rattle.std.specs.List.{list_all, prefix_len, starts_with}
 use Rattle.std.specs.Str.{IsUtf8, IsCharBoundary, bytes_eq}
 use Rattle.std.proofs.lemmas.Bool.{eqb-true, ltb-true, cond_both, cases_Bool, and_parts, or_cases, not-false}
 use Rattle.std.proofs.lemmas.List.{take_at, drop_at}
@@ -11,14 +11,12 @@ use Rattle.std.proofs.Math.Seq.{get_or-append_seam}
 use Rattle.lf_format.specs.Cuts.{EndsText}
 use Rattle.lf_format.specs.Runs.{run, past}
 use Rattle.lf_format.proofs.RunCuts.{run_join, past_stop, run_taken}
-use Rattle.lf_format.specs.declared.fault.Cause.{Cause}
-use Rattle.lf_format.specs.declared.fault.Cause.TheVariants.{UnknownName}
 use Rattle.w3c_front.specs.declared.table.Language.{Language}
 use Rattle.w3c_front.specs.declared.table.Language.TheVariants.{Draft, Iis}
 use Rattle.w3c_front.specs.declared.table.Sort.{Sort}
 use Rattle.w3c_front.specs.declared.table.Sort.TheVariants.{Word}
 use Rattle.w3c_front.specs.Table.{Entry, prefixes, is_listed, sort_in, draft_fields, iis_fields}
-use Rattle.w3c_front.specs.Identifier.{is_other, past_first, past_prefix, is_own, is_own_byte, is_some_byte, after_dash, prefixed_sort, or_else, draft_sort, sort_of, known, field_by, field_of}
+use Rattle.w3c_front.specs.Identifier.{is_other, past_first, past_prefix, is_own, is_own_byte, is_some_byte, after_dash, prefixed_sort, or_else, sort_of, known, field_by, field_of}
 use Rattle.w3c_front.specs.Items.{is_blank, is_inner}
 use Rattle.w3c_front.specs.FrontLaws.{begins}
 

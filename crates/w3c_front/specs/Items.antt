@@ -1,5 +1,5 @@
 -- What stands in a list of fields, and what is wrong where nothing does.
-use Rattle.std.specs.Prelude.{◌≡◌, ℕ, ◌≤◌, ◌==◌, ◌&&◌, ◌||◌, not, nat_eq, Bool, true, false, List, [], ◌∷◌, ◌++◌, length, Result, Ok, Err, codes}
+use Rattle.std.specs.Prelude.{◌≡◌, ℕ, ◌≤◌, ◌==◌, ◌&&◌, ◌||◌, not, nat_eq, Bool, false, List, ◌∷◌, ◌++◌, length, Ok, Err, codes}
 use Rattle.std.specs.List.{starts_with}
 use Rattle.lf_format.specs.Runs.{run}
 use Rattle.lf_format.specs.Items.{Item}

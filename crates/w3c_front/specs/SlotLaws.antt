@@ -1,8 +1,6 @@
 -- The slot of each field keeps what a format's slots keep.
-use Rattle.std.proofs.Common.{◌≡◌, ℕ, true, List, refl}
+use Rattle.std.proofs.Common.{ℕ, List, refl}
 use Rattle.std.specs.Prelude.{pos}
-use Rattle.lf_core.specs.Class.{is_letter}
-use Rattle.lf_core.specs.declared.class.Class.{Class}
 use Rattle.lf_core.specs.declared.class.TheConstants.Class as classes
 use Rattle.lf_format.specs.declared.kind.Coding.TheVariants.{Raw, PlusSpace, Doubled}
 use Rattle.lf_format.specs.CommonKinds.{zero_fits, one_fits}

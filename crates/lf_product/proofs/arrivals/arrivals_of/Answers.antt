@@ -5,28 +5,18 @@ use Rattle.std.specs.declared.alloc.Global.{Global}
 use Rattle.std.proofs.lemmas.Bool.{cases_lt}
 use Rattle.std.proofs.lemmas.List.{length-map}
 use Rattle.std.proofs.lemmas.List.Elements.{Contains-get_or}
-use Rattle.lf_core.specs.declared.marked.Move.{Move}
 use Rattle.lf_product.specs.ByteSet.{HasByte}
 use Rattle.lf_product.specs.declared.arrivals.Departure.{Departure}
 use Rattle.lf_product.specs.declared.arrivals.Arrival.{Arrival}
-use Rattle.lf_product.specs.Written.{table_machine, written_of, cells_of}
+use Rattle.lf_core.specs.Written.{machine_of}
 use Rattle.lf_product.specs.Arcs.{seen, Departs, lists_of, Arrives}
 use Rattle.lf_product.specs.Level.{LeadsTo}
 use Rattle.lf_product.proofs.Sweep.{contains_none}
-use Rattle.lf_product.proofs.Inbound.{more, more_cases, arrives_kept, arrives_new, moves_from, moves_on, row_at, depart_leads, depart_below, departs_row, departs_take_more, departs_whole}
+use Rattle.lf_product.proofs.Inbound.{more, more_cases, arrives_kept, arrives_new, moves_from, moves_on, depart_leads, depart_below, departs_take_more, departs_whole}
 use Rattle.lf_product.proofs.arrivals.arrivals_of.Goals as goal
 
 abbrev no_departure : Departure
 no_departure = record { mark = 0; to = 0; bytes = record { words = [] } }
-
-pub departures_of-requires : goal.departures_of-requires
-departures_of-requires c =
-    let m = table_machine c.args.table.now in
-    let w = written_of c.args.table.now in
-    let lt : c.loop-from.from < length c.args.table.now.rows.items = search rules in
-    let row : slice_index_or w.rows c.loop-from.from [] ≡ cells_of c.deref.result.now = row_at c.args.table.now.rows.items c.loop-from.from c.index.result.now lt c.index.ensures ∙ ap (λ (r : List (Vec Move Global)). cells_of r) (sym c.deref.ensures.value) in
-    let n : length (slice_index_or w.rows c.loop-from.from []) ≡ 256 = c.requires.full.each_byte c.loop-from.from (search (rules, length-map)) in
-    sym (length-map c.deref.result.now (λ (v : Vec Move Global). v.items)) ∙ ap (λ (r : List (List Move)). length r) (sym row) ∙ n
 
 pub loop-d-init : goal.loop-d-init
 loop-d-init c = record {
@@ -39,27 +29,23 @@ loop-d-init c = record {
 
 pub add_arrival-requires : goal.add_arrival-requires
 add_arrival-requires c =
-    let m = table_machine c.args.table.now in
-    let w = written_of c.args.table.now in
-    let lt : c.loop-from.from < length c.args.table.now.rows.items = search rules in
-    let row : slice_index_or w.rows c.loop-from.from [] ≡ cells_of c.deref.result.now = row_at c.args.table.now.rows.items c.loop-from.from c.index.result.now lt c.index.ensures ∙ ap (λ (r : List (Vec Move Global)). cells_of r) (sym c.deref.ensures.value) in
+    let m = machine_of c.args.table.now in
+    let w = c.args.table.now in
     let d : Departure = get_or c.deref-d-items.result.now c.loop-d.d-index no_departure in
     let listed : Contains c.in_ok-departures.departures.items d = rw (← c.deref-d-items.ensures.value) (Contains-get_or c.deref-d-items.result.now c.loop-d.d-index no_departure (omega arith)) in
-    let below : d.to < m.count = depart_below w c.args.marked c.loop-from.from c.deref.result.now c.in_ok-departures.departures.items c.requires.lawful row c.in_ok-departures.ensures.from c.in_ok-departures.ensures.some d listed in
+    let below : d.to < m.count = depart_below w c.args.marked c.loop-from.from c.in_ok-departures.departures.items c.requires.lawful c.in_ok-departures.ensures.from c.in_ok-departures.ensures.some d listed in
     let n : length (lists_of c.loop-d.arrivals.items) ≡ m.count = c.loop-d.invariant.len in
     omega (arith, below, n, length-map c.loop-d.arrivals.items (λ (v : Vec Arrival Global). v.items))
 
 pub loop-d-preserved : goal.loop-d-preserved
 loop-d-preserved c =
-    let m = table_machine c.args.table.now in
-    let w = written_of c.args.table.now in
-    let lt : c.loop-from.from < length c.args.table.now.rows.items = search rules in
-    let row : slice_index_or w.rows c.loop-from.from [] ≡ cells_of c.deref.result.now = row_at c.args.table.now.rows.items c.loop-from.from c.index.result.now lt c.index.ensures ∙ ap (λ (r : List (Vec Move Global)). cells_of r) (sym c.deref.ensures.value) in
+    let m = machine_of c.args.table.now in
+    let w = c.args.table.now in
     let d : Departure = get_or c.deref-d-items.result.now c.loop-d.d-index no_departure in
     let e : Arrival = record { from = c.loop-from.from; mark = d.mark; bytes = d.bytes } in
     let here : c.loop-d.d-index < length c.deref-d-items.result.now = omega arith in
     let listed : Contains c.in_ok-departures.departures.items d = rw (← c.deref-d-items.ensures.value) (Contains-get_or c.deref-d-items.result.now c.loop-d.d-index no_departure here) in
-    let below : d.to < m.count = depart_below w c.args.marked c.loop-from.from c.deref.result.now c.in_ok-departures.departures.items c.requires.lawful row c.in_ok-departures.ensures.from c.in_ok-departures.ensures.some d listed in
+    let below : d.to < m.count = depart_below w c.args.marked c.loop-from.from c.in_ok-departures.departures.items c.requires.lawful c.in_ok-departures.ensures.from c.in_ok-departures.ensures.some d listed in
     let old : List (List Arrival) = lists_of c.loop-d.arrivals.items in
     let n : length (lists_of c.loop-d.arrivals.items) ≡ m.count = c.loop-d.invariant.len in
     let inside : d.to < length (lists_of c.loop-d.arrivals.items) = omega (arith, below, n) in
@@ -72,7 +58,7 @@ loop-d-preserved c =
       ];
       leads = λ to x h. elim (more_cases old d.to e to x inside (subst (λ (ls : List (List Arrival)). Contains (slice_index_or ls to []) x) is h)) [
         | inl k ↦ c.loop-d.invariant.leads to x k
-        | inr (p, q) ↦ subst (λ (y : Arrival). LeadsTo m c.args.marked y to) q (subst (λ (t : ℕ). LeadsTo m c.args.marked e t) (sym p) (λ b low on. depart_leads w c.args.marked c.loop-from.from c.deref.result.now c.in_ok-departures.departures.items row c.in_ok-departures.ensures.from d listed b low on))
+        | inr (p, q) ↦ subst (λ (y : Arrival). LeadsTo m c.args.marked y to) q (subst (λ (t : ℕ). LeadsTo m c.args.marked e t) (sym p) (λ b low on. depart_leads w c.args.marked c.loop-from.from c.in_ok-departures.departures.items c.in_ok-departures.ensures.from d listed b low on))
       ];
       all = λ from b x below h. subst (λ (ls : List (List Arrival)). Arrives ls from (seen c.args.marked x) b) (sym is) (arrives_kept old d.to e from (seen c.args.marked x) b inside (c.loop-d.invariant.all from b x below h));
       here = λ b x h. elim (departs_take_more c.deref-d-items.result.now c.loop-d.d-index no_departure x b here h) [
@@ -83,10 +69,8 @@ loop-d-preserved c =
 
 pub loop-from-preserved : goal.loop-from-preserved
 loop-from-preserved c =
-    let m = table_machine c.args.table.now in
-    let w = written_of c.args.table.now in
-    let lt : c.loop-from.from < length c.args.table.now.rows.items = search rules in
-    let row : slice_index_or w.rows c.loop-from.from [] ≡ cells_of c.deref.result.now = row_at c.args.table.now.rows.items c.loop-from.from c.index.result.now lt c.index.ensures ∙ ap (λ (r : List (Vec Move Global)). cells_of r) (sym c.deref.ensures.value) in
+    let m = machine_of c.args.table.now in
+    let w = c.args.table.now in
     record {
       len = c.loop-d.invariant.len;
       from_below = c.loop-d.invariant.from_below;
@@ -96,15 +80,15 @@ loop-from-preserved c =
         | inr ge ↦
             let q : from ≡ c.loop-from.from = omega (arith, ge, below) in
             let h' : Contains (m.moves c.loop-from.from b) x = subst (λ (k : ℕ). Contains (m.moves k b) x) q h in
-            let departs : Departs c.deref-d-items.result.now (seen c.args.marked x) b = rw c.deref-d-items.ensures.value (departs_row w c.args.marked c.loop-from.from c.deref.result.now c.in_ok-departures.departures.items c.requires.lawful row c.in_ok-departures.ensures.all b x h') in
+            let departs : Departs c.deref-d-items.result.now (seen c.args.marked x) b = rw c.deref-d-items.ensures.value (c.in_ok-departures.ensures.all x b (moves_on w c.loop-from.from b x c.requires.lawful h') h') in
             subst (λ (k : ℕ). Arrives (lists_of c.loop-d.arrivals.items) k (seen c.args.marked x) b) (sym q) (c.loop-d.invariant.here b (seen c.args.marked x) (departs_whole c.deref-d-items.result.now c.loop-d.d-index (seen c.args.marked x) b (omega (arith, c.loop-d-test.false)) departs))
       ];
     }
 
 pub returns : goal.returns
 returns c =
-    let m = table_machine c.args.table.now in
-    let w = written_of c.args.table.now in
+    let m = machine_of c.args.table.now in
+    let w = c.args.table.now in
     let end : m.count ≤ c.loop-from.from = search (rules, length-map) in
     let le : c.loop-from.from ≤ m.count = search (rules, length-map) in
     record {

@@ -3,7 +3,7 @@ use Rattle.std.proofs.lemmas.List.{length-map, nil_from_length}
 use Rattle.lf_product.specs.declared.search.TheConstants.{NONE}
 use Rattle.lf_product.specs.declared.limits.TheConstants.{MOST_POINTS}
 use Rattle.lf_product.specs.declared.search.Pair.{Pair}
-use Rattle.lf_product.specs.Written.{table_machine}
+use Rattle.lf_core.specs.Written.{machine_of}
 use Rattle.lf_product.specs.Level.{Reached, AllBefore, room}
 use Rattle.lf_product.proofs.Places.{steps_at-replicate}
 use Rattle.lf_product.proofs.Levels.{next_complete, exact, steps_fit}
@@ -11,13 +11,13 @@ use Rattle.lf_product.proofs.search.distances_of.Goals as goal
 
 pub first_level-requires-clause-none : goal.first_level-requires-clause-none
 first_level-requires-clause-none c =
-    let n : c.len-points.result ≡ (table_machine c.args.table.now).count = search (rules, length-map) in
-    let is : c.in_ok-distances.distances.items ≡ replicate (c.len-points.result * (c.len-points.result + 1)) NONE = search rules in
-    rw is (λ a b d ha hb. steps_at-replicate ((table_machine c.args.table.now).count) (c.len-points.result * (c.len-points.result + 1)) NONE a b d (ap (λ (k : ℕ). k * (k + 1)) n) ha hb)
+    let n : c.points-points.result ≡ (machine_of c.args.table.now).count = search (rules, length-map) in
+    let is : c.in_ok-distances.distances.items ≡ replicate (c.points-points.result * (c.points-points.result + 1)) NONE = search rules in
+    rw is (λ a b d ha hb. steps_at-replicate ((machine_of c.args.table.now).count) (c.points-points.result * (c.points-points.result + 1)) NONE a b d (ap (λ (k : ℕ). k * (k + 1)) n) ha hb)
 
 pub levels-preserved : goal.levels-preserved
 levels-preserved c =
-    let m = table_machine c.args.table.now in
+    let m = machine_of c.args.table.now in
     let fit : c.levels.steps + 1 < NONE = steps_fit m.count c.levels.steps (room NONE c.levels.distances.items c.levels.level.items) MOST_POINTS NONE c.requires.few c.levels.invariant.few (omega arith) in
     let some : 0 < length c.levels.level.items = search rules in
     let same : room NONE c.next_level.new.distances.items c.in_ok-level-2.level.items ≡ room NONE c.levels.distances.items [] = c.in_ok-level-2.ensures.room in
@@ -32,7 +32,7 @@ levels-preserved c =
 
 pub returns-clause-exact : goal.returns-clause-exact
 returns-clause-exact c =
-    let m = table_machine c.args.table.now in
+    let m = machine_of c.args.table.now in
     let empty : c.levels.level.items ≡ [] = nil_from_length c.levels.level.items (search rules) in
     let fit : c.levels.steps + 1 < NONE = steps_fit m.count c.levels.steps (room NONE c.levels.distances.items c.levels.level.items) MOST_POINTS NONE c.requires.few c.levels.invariant.few (omega arith) in
     exact m NONE c.levels.steps c.levels.distances.items c.requires.lawful (omega (arith, fit))

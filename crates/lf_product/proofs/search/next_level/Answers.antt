@@ -2,7 +2,7 @@ use Rattle.std.proofs.Common.{ℕ, arith, ◌+◌, [], get_or, inl, inr, subst, 
 use Rattle.std.proofs.lemmas.List.Elements.{Contains-get_or}
 use Rattle.lf_product.specs.declared.search.Pair.{Pair}
 use Rattle.lf_product.specs.declared.search.TheConstants.{NONE}
-use Rattle.lf_product.specs.Written.{table_machine}
+use Rattle.lf_core.specs.Written.{machine_of}
 use Rattle.lf_product.specs.Level.{AreBefore}
 use Rattle.lf_product.proofs.Sweep.{contains_take_more, contains_whole, before_grows, going_on}
 use Rattle.lf_product.proofs.search.next_level.Goals as goal
@@ -20,11 +20,11 @@ pub reach_from-requires-clause-way : goal.reach_from-requires-clause-way
 reach_from-requires-clause-way c = (c.args.steps, omega arith, c.requires.reached.waits_at (get_or c.args.level.now c.loop-pair.pair-index no_pair) (Contains-get_or c.args.level.now c.loop-pair.pair-index no_pair (omega arith)))
 
 pub reach_from-requires-clause-arrivals : goal.reach_from-requires-clause-arrivals
-reach_from-requires-clause-arrivals c = c.telling-arrivals.ensures (table_machine c.args.table.now) c.requires.marked c.requires.joined
+reach_from-requires-clause-arrivals c = c.telling-arrivals.ensures (machine_of c.args.table.now) c.requires.marked c.requires.joined
 
 pub loop-pair-preserved : goal.loop-pair-preserved
 loop-pair-preserved c =
-    let m = table_machine c.args.table.now in
+    let m = machine_of c.args.table.now in
     let es : List ℕ = c.reach_from.new.distances.items in
     record {
       going = going_on m NONE (c.args.steps + 1) c.args.distances.now.items c.loop-pair.distances.items es [] c.loop-pair.waiting.items c.reach_from.new.waiting.items c.loop-pair.invariant.going c.in_ok-reach_from.ensures.reached c.in_ok-reach_from.ensures.grows c.in_ok-reach_from.ensures.room;

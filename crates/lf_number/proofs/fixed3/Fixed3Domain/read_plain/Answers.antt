@@ -1,14 +1,15 @@
-use Rattle.std.proofs.Common.{rules, ◌≡◌, ◌∙◌, ap, ◌++◌, to_z, of_z, arith}
-use Rattle.std.specs.Prelude.{ℤ, FitsSigned}
-use Rattle.std.specs.Int.{w64}
-use Rattle.std.proofs.lemmas.Int.{ints, to_z-of_z}
-use Rattle.lf_number.specs.Numbers.{thousandths_text}
-use Rattle.lf_number.proofs.ReadBack.{no-other, written-apart}
+use Rattle.std.proofs.Common.{rules}
+use Rattle.lf_number.specs.Numbers.{thousandths_text, num_text}
+use Rattle.lf_number.specs.ThousandthsLaws.{thousandths-value}
+use Rattle.lf_number.proofs.ReadBack.{only-value, no-other, written-apart}
 use Rattle.lf_number.proofs.fixed3.Fixed3Domain.read_plain.Goals as goal
 
-pub returns : goal.returns
-returns c =
-    let f : FitsSigned w64 c.in-Some.n = search rules in
-    let z : to_z w64 (of_z w64 c.in-Some.n) ≡ c.in-Some.n = to_z-of_z w64 c.in-Some.n f in
-    no-other c.args.self.now.lo c.args.self.now.hi thousandths_text c.args.text.now c.candidate.result c.in-Some.n (omega (arith, ints)) (omega (arith, ints)) c.args.self.now.not_negative c.candidate.ensures c.in-Some.is
-    (written-apart c.new-plain.result c.write_thousandths.new.into (thousandths_text c.in-Some.n) c.as_slice.result.now c.args.text.now c.eq.result c.new-plain.ensures (c.in_ok-write_thousandths.ensures.done ∙ ap (λ (m : ℤ). c.new-plain.result ++ thousandths_text m) z) c.as_slice.ensures c.eq.ensures c.if-eq.false)
+pub returns-in_default : goal.returns-in_default
+returns-in_default c = λ v h e.
+    c.in_default.not-Some v (only-value 10 thousandths_text thousandths-value c.args.self.now.lo c.args.self.now.hi c.args.text.now c.candidate.result (search rules) (search rules) c.args.self.now.not_negative c.candidate.ensures.only v h e)
+
+pub returns-else-eq : goal.returns-else-eq
+returns-else-eq c = λ v h e.
+    no-other (num_text thousandths_text) c.args.text.now c.candidate.result c.in-Some.value v c.in-Some.is
+    (written-apart c.new-plain.result c.write_plain.new.into (num_text thousandths_text c.in-Some.value) c.as_slice.result.now c.args.text.now c.eq.result c.new-plain.ensures c.in_ok-write_plain.ensures.ok c.as_slice.ensures c.eq.ensures c.if-eq.false)
+    (only-value 10 thousandths_text thousandths-value c.args.self.now.lo c.args.self.now.hi c.args.text.now c.candidate.result (search rules) (search rules) c.args.self.now.not_negative c.candidate.ensures.only v h e) e

@@ -1,4 +1,4 @@
-use Rattle.std.proofs.Common.{◌≡◌, ℕ, ◌+◌, ◌-◌, ◌*◌, ◌/◌, ◌<◌, ◌≤◌, ◌∙◌, List, [], ◌∷◌, length, refl, sym, ap, subst, take, drop, reverse, arith}
+use Rattle.std.proofs.Common.{◌≡◌, ℕ, ◌+◌, ◌-◌, ◌*◌, ◌/◌, ◌<◌, ◌≤◌, List, [], ◌∷◌, length, refl, sym, subst, take, drop, reverse, arith}
 use Rattle.lf_core.specs.declared.marked.Move.{Move}
 use Rattle.lf_core.specs.Marked.{Machine, IsMachine, IsWholeRun}
 use Rattle.lf_sets.specs.declared.blocks.TheConstants.{BLOCK}
@@ -122,5 +122,4 @@ returns g c =
     let done : c.saturating_sub-last.result / 1024 - c.loop-k.k ≡ 0 = omega (arith, c.loop-k-test.false) in
     let led : IsLedTo m (m.first ∷ []) [] point = subst (λ (n : ℕ). IsLedTo m (m.first ∷ []) (take (n * BLOCK) line) point) done c.loop-k.invariant.led in
     let ends : IsEndingRun m point line (reverse back) = subst (λ (n : ℕ). IsEndingRun m point (drop (n * BLOCK) line) (reverse back)) done c.loop-k.invariant.ends in
-    let run : c.in_ok-turned.field-0 ≡ reverse back = c.in_ok-turned.ensures ∙ ap (λ (r : List Move). reverse r) c.deref-3.ensures.value in
-    subst (λ (r : List Move). IsWholeRun m line r) (sym run) (from_start m line point (reverse back) led ends)
+    subst (λ (r : List Move). IsWholeRun m line r) (sym c.turned.ensures) (from_start m line point (reverse back) led ends)

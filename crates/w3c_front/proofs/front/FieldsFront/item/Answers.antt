@@ -1,4 +1,4 @@
-use Rattle.std.proofs.Common.{sym, ◌∙◌}
+use Rattle.std.proofs.Common.{sym}
 use Rattle.std.proofs.lemmas.Bool.{ne_eqb}
 use Rattle.lf_format.proofs.RunCuts.{run_taken}
 use Rattle.w3c_front.specs.Items.{is_inner}
