@@ -1,20 +1,10 @@
 -- Runs are the same or not, and the lesser of two that differ.
 use Rattle.std.proofs.Common.{◌≡◌, ◌≢◌, ℕ, ◌⊎◌, inl, inr, List, [], ◌∷◌, refl, ap, ◌∙◌}
-use Rattle.std.proofs.lemmas.Bool.{cases_eq}
 use Rattle.lf_core.specs.declared.marked.Move.{Move}
 use Rattle.lf_core.specs.Marked.{IsRun}
 use Rattle.lf_machine.specs.RecordOrder.{IsRunLess}
+use Rattle.lf_product.proofs.RunPairs.{move_cases}
 use Rattle.lf_witness.specs.Runs.{RunLe}
-
-move_is : (x y : Move) → x.mark ≡ y.mark → x.to ≡ y.to → x ≡ y
-move_is x y h k = ap (λ (v : ℕ). record { mark = v; to = x.to }) h ∙ ap (λ (v : ℕ). record { mark = y.mark; to = v }) k
-
-move_cases : (x y : Move) → (x ≡ y) ⊎ (x ≢ y)
-move_cases x y =
-    elim (cases_eq x.mark y.mark) [
-      | inl h ↦ elim (cases_eq x.to y.to) [ inl k ↦ inl (move_is x y h k) | inr n ↦ inr (λ e. n (ap (λ (z : Move). z.to) e)) ]
-      | inr n ↦ inr (λ e. n (ap (λ (z : Move). z.mark) e))
-    ]
 
 cons_is : (x y : Move) (xs ys : List Move) → x ≡ y → xs ≡ ys → (x ∷ xs) ≡ (y ∷ ys)
 cons_is x y xs ys h k = ap (λ (z : Move). z ∷ xs) h ∙ ap (λ (zs : List Move). y ∷ zs) k

@@ -7,7 +7,8 @@ use Rattle.lf_core.specs.Marked.{Machine, IsMachine}
 use Rattle.lf_core.proofs.WrittenLaws.{move_stays}
 use Rattle.lf_product.specs.Distance.{differed_by, Suffices, IsAmbiguous}
 use Rattle.lf_product.proofs.RunPairs.{ambiguous_from_steps, steps_from_ambiguous}
-use Rattle.lf_product.proofs.Deciding.{Decided, both-decided, either-decided, not-decided, bool-decided, some_below, some_listed, contains_not, sum_to, sum_le, sum_lt, one_if, one_low, one_le, one_lt, stands_still}
+use Rattle.lf_product.proofs.Deciding.{Decided, both-decided, either-decided, not-decided, bool-decided, some_below, some_listed, sum_to, sum_le, sum_lt, one_if, one_low, one_le, one_lt, stands_still}
+use Rattle.lf_product.proofs.Sweep.{contains_none}
 
 -- a move of each on the byte, and what holds after them
 abbrev pub After : Machine → ℕ → ℕ → Bool → ℕ → (ℕ → ℕ → Bool → Type 0) → Type 0
@@ -31,7 +32,7 @@ pub byte_low : (m : Machine) (p c : ℕ) (x : Move) → IsMachine m → p < m.co
 byte_low m p c x lawful low h =
     elim (cases_lt c 256) [
       | inl lt ↦ lt
-      | inr ge ↦ absurd (contains_not x (subst (λ (ys : List Move). Contains ys x) (lawful.bytes p c low ge) h))
+      | inr ge ↦ absurd (contains_none x (subst (λ (ys : List Move). Contains ys x) (lawful.bytes p c low ge) h))
     ]
 
 leads_from : (m : Machine) (k a b : ℕ) (d : Bool) → IsMachine m → a < m.count → b < m.count → Suffices m k a b d → Leads m k a b d

@@ -2,6 +2,7 @@
 use Rattle.std.proofs.Common.{◌≡◌, ℕ, zero, suc, ◌+◌, ◌<◌, ◌≤◌, ◌⊎◌, inl, inr, Bool, true, false, List, [], ◌∷◌, refl, sym, subst, arith}
 use Rattle.std.specs.List.{Contains}
 use Rattle.std.proofs.lemmas.Bool.{cases_lt}
+use Rattle.lf_product.proofs.Sweep.{contains_none}
 
 abbrev pub Decided : Type 0 → Type 0
 Decided P = P ⊎ (P → ⊥)
@@ -56,11 +57,8 @@ contains_first x xs = (0, omega arith, refl)
 pub contains_later : {X : Type 0} (y : X) (ys : List X) (x : X) → Contains ys x → Contains (y ∷ ys) x
 contains_later y ys x (k, lt, is) = (suc k, omega (arith, lt), is)
 
-pub contains_not : {X : Type 0} (x : X) → Contains [] x → ⊥
-contains_not x (k, lt, is) = absurd (omega (arith, lt))
-
 pub some_listed : {X : Type 0} (xs : List X) (P : X → Type 0) → ((x : X) → Decided (P x)) → Decided ((x : X) × Contains xs x × P x)
-some_listed [] P dec = inr (λ h. contains_not h.0 h.1)
+some_listed [] P dec = inr (λ h. contains_none h.0 h.1)
 some_listed (x ∷ xs) P dec =
     elim (dec x) [
       | inl p ↦ inl (x, contains_first x xs, p)

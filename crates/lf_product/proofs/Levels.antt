@@ -1,7 +1,7 @@
 -- The search by levels.
 use Rattle.std.proofs.Common.{◌≡◌, ◌≢◌, ℕ, zero, suc, ◌+◌, ◌*◌, ◌<◌, ◌≤◌, inl, inr, Bool, true, false, cond, eqb, List, [], ◌∷◌, ◌++◌, length, get_or, set, length-set, refl, sym, ap, ◌∙◌, subst, arith, None, Some}
 use Rattle.std.specs.List.{Contains, count_by}
-use Rattle.std.proofs.lemmas.Bool.{cases_eq, cases_lt}
+use Rattle.std.proofs.lemmas.Bool.{cases_eq, cases_lt, eqb-true}
 use Rattle.std.proofs.lemmas.Nat.{mul-le}
 use Rattle.std.proofs.lemmas.List.{length-append}
 use Rattle.std.proofs.lemmas.List.Sums.{sum_by-set}
@@ -165,9 +165,6 @@ by_test : (m : Machine) (a b : ℕ) (d : Bool) (t : Bool) (x : ℕ) → (t ≡ t
 by_test m a b d true x f g = f refl
 by_test m a b d false x f g = g refl
 
-eqb_true : (a b : ℕ) → eqb a b ≡ true → a ≡ b
-eqb_true a b h = grind arith
-
 eqb_false : (a b : ℕ) → eqb a b ≡ false → a ≢ b
 eqb_false a b h = grind arith
 
@@ -176,7 +173,7 @@ pub exact : (m : Machine) (none k : ℕ) (ds : List ℕ) → IsMachine m → k <
 exact m none k ds lawful small r c a b d ha hb =
     by_test m a b d (eqb (steps_at ds a b d) none) (steps_at ds a b d)
     (λ t n h.
-    let e : steps_at ds a b d ≡ none = eqb_true (steps_at ds a b d) none t in
+    let e : steps_at ds a b d ≡ none = eqb-true (steps_at ds a b d) none t in
     let p = none_left m none k ds lawful small r c n a b d ha hb h in
     omega (arith, e, p.0))
     (λ t.

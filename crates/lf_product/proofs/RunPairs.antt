@@ -1,6 +1,7 @@
 -- A number of steps suffices exactly where two runs stand on a list of that many bytes.
 use Rattle.std.proofs.Common.{◌≡◌, ◌≢◌, ℕ, zero, suc, ◌⊎◌, inl, inr, Bool, true, false, ◌&&◌, eqb, List, [], ◌∷◌, length, refl, sym, ap, ◌∙◌, subst, arith, Option, None, Some, is_some}
 use Rattle.std.specs.List.{Contains}
+use Rattle.std.proofs.lemmas.Bool.{cases_eq, and_parts, eqb-true}
 use Rattle.lf_core.specs.declared.marked.Move.{Move}
 use Rattle.lf_core.specs.Marked.{Machine, IsRun, stop}
 use Rattle.lf_product.specs.Distance.{differed_by, Suffices, IsDistance, IsAmbiguous}
@@ -25,24 +26,23 @@ pub record TwoRuns (m : Machine) (n a b : ℕ) (d : Bool) : Type 0 where
   pub runs_right : RunsToEnd m b bytes right
   pub differ : (d ≡ true) ⊎ (left ≢ right)
 
-both_true : (a b : Bool) → (a && b) ≡ true → (a ≡ true) × (b ≡ true)
-both_true true true h = (refl, refl)
-both_true true false h = absurd (cc)
-both_true false b h = absurd (cc)
-
-eqb_true : (a b : ℕ) → eqb a b ≡ true → a ≡ b
-eqb_true a b h = grind arith
-
-eqb_self : (a : ℕ) → eqb a a ≡ true
-eqb_self a = grind arith
-
-move_is : (x y : Move) → x.mark ≡ y.mark → x.to ≡ y.to → x ≡ y
+pub move_is : (x y : Move) → x.mark ≡ y.mark → x.to ≡ y.to → x ≡ y
 move_is x y h k = ap (λ (v : ℕ). record { mark = v; to = x.to }) h ∙ ap (λ (v : ℕ). record { mark = y.mark; to = v }) k
+
+pub move_cases : (x y : Move) → (x ≡ y) ⊎ (x ≢ y)
+move_cases x y =
+    elim (cases_eq x.mark y.mark) [
+      | inl h ↦ elim (cases_eq x.to y.to) [ inl k ↦ inl (move_is x y h k) | inr n ↦ inr (λ e. n (ap (λ (z : Move). z.to) e)) ]
+      | inr n ↦ inr (λ e. n (ap (λ (z : Move). z.mark) e))
+    ]
 
 same_move_true : (x y : Move) → (eqb x.mark y.mark && eqb x.to y.to) ≡ true → x ≡ y
 same_move_true x y h =
-    let p = both_true (eqb x.mark y.mark) (eqb x.to y.to) h in
-    move_is x y (eqb_true x.mark y.mark p.0) (eqb_true x.to y.to p.1)
+    let p = and_parts (eqb x.mark y.mark) (eqb x.to y.to) h in
+    move_is x y (eqb-true x.mark y.mark p.0) (eqb-true x.to y.to p.1)
+
+eqb_self : (a : ℕ) → eqb a a ≡ true
+eqb_self a = grind arith
 
 same_move_self : (x y : Move) → x ≡ y → (eqb x.mark y.mark && eqb x.to y.to) ≡ true
 same_move_self x y h =
@@ -65,14 +65,14 @@ head_is x y xs ys h = cc
 tail_is : (x y : Move) (xs ys : List Move) → x ∷ xs ≡ y ∷ ys → xs ≡ ys
 tail_is x y xs ys h = cc
 
-differ_on : (d : Bool) (x y : Move) (xs ys : List Move) (d' : Bool) → differed_by d x y ≡ d' → (d' ≡ true) ⊎ (xs ≢ ys) → (d ≡ true) ⊎ ((x ∷ xs) ≢ (y ∷ ys))
+pub differ_on : (d : Bool) (x y : Move) (xs ys : List Move) (d' : Bool) → differed_by d x y ≡ d' → (d' ≡ true) ⊎ (xs ≢ ys) → (d ≡ true) ⊎ ((x ∷ xs) ≢ (y ∷ ys))
 differ_on d x y xs ys d' e h =
     elim h [
       | inl t ↦ elim (set_by d x y (e ∙ t)) [ inl s ↦ inl s | inr n ↦ inr (λ k. n (head_is x y xs ys k)) ]
       | inr n ↦ inr (λ k. n (tail_is x y xs ys k))
     ]
 
-differ_off : (d : Bool) (x y : Move) (xs ys : List Move) → (d ≡ true) ⊎ ((x ∷ xs) ≢ (y ∷ ys)) → (differed_by d x y ≡ true) ⊎ (xs ≢ ys)
+pub differ_off : (d : Bool) (x y : Move) (xs ys : List Move) → (d ≡ true) ⊎ ((x ∷ xs) ≢ (y ∷ ys)) → (differed_by d x y ≡ true) ⊎ (xs ≢ ys)
 differ_off true x y xs ys h = inl refl
 differ_off false x y xs ys (inl e) = absurd (cc)
 differ_off false x y xs ys (inr n) =

@@ -12,7 +12,7 @@ use Rattle.lf_witness.specs.Runs.{IsLeastRun}
 use Rattle.lf_witness.specs.Sets.{CanEnd}
 use Rattle.lf_witness.specs.Steps.{EndsIn, IsSteps, told, AreSteps}
 use Rattle.lf_witness.specs.Heads.{IsNextPoint, IsNextFrom, AreAt, IsLeastByte, IsLeastFrom, IsLeastNumber, lesser_number, HasNoHeaded, AreFirsts, IsLeastHeaded}
-use Rattle.lf_witness.proofs.Lists.{contains_none}
+use Rattle.lf_product.proofs.Sweep.{contains_none}
 use Rattle.lf_witness.proofs.Endings.{end_on, end_by, none_from_end, end_from_none}
 use Rattle.lf_witness.proofs.StepLaws.{none_or}
 

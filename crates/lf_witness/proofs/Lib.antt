@@ -1,6 +1,5 @@
 pub mod Shares
 pub mod LineSteps
-pub mod Lists
 pub mod SameLines
 pub mod Endings
 pub mod OpenLaws

@@ -7,9 +7,9 @@ use Rattle.lf_core.specs.Marked.{Machine}
 use Rattle.lf_product.proofs.Deciding.{Decided, bool-decided, not-decided, contains_cases, contains_first, contains_later}
 use Rattle.lf_witness.specs.Runs.{RunsToEnd, MoveLe, RunLe, AreLeastRuns}
 use Rattle.lf_witness.specs.Shared.{IsShared}
-use Rattle.lf_witness.proofs.Lists.{contains_none}
+use Rattle.lf_product.proofs.Sweep.{contains_none}
 use Rattle.lf_witness.proofs.OpenLaws.{move_le_trans}
-use Rattle.lf_witness.proofs.SecondLaws.{move_is, move_cases}
+use Rattle.lf_product.proofs.RunPairs.{move_is, move_cases}
 
 by_point : (x y : Move) → x.mark ≡ y.mark → MoveLe x y ⊎ MoveLe y x
 by_point x y e =

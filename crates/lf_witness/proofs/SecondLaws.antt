@@ -1,11 +1,11 @@
 -- The second least run.
-use Rattle.std.proofs.Common.{◌≡◌, ◌≢◌, ℕ, zero, suc, ◌+◌, ◌<◌, ◌≤◌, ◌⊎◌, inl, inr, Bool, List, [], ◌∷◌, ◌++◌, Option, None, Some, length, get_or, take, drop, refl, sym, ap, ◌∙◌, subst, arith, append_assoc}
+use Rattle.std.proofs.Common.{◌≡◌, ◌≢◌, ℕ, zero, suc, ◌+◌, ◌<◌, ◌≤◌, inl, inr, Bool, List, [], ◌∷◌, ◌++◌, Option, None, Some, length, get_or, take, drop, refl, sym, ap, ◌∙◌, subst, arith, append_assoc}
 use Rattle.std.specs.Prelude.{Contains, All}
-use Rattle.std.proofs.lemmas.Bool.{cases_eq}
 use Rattle.std.proofs.lemmas.List.{drop_more, take_more, drop_all}
 use Rattle.lf_core.specs.declared.marked.Move.{Move}
 use Rattle.lf_core.specs.Marked.{Machine, IsMachine, IsRun, stop, no_move}
 use Rattle.lf_core.proofs.WrittenLaws.{move_stays}
+use Rattle.lf_product.proofs.RunPairs.{move_cases}
 use Rattle.lf_witness.specs.Runs.{RunsToEnd, RunLe, MoveLt, IsLeastRun, IsSecondRun, IsOnlyRun}
 use Rattle.lf_witness.specs.Sets.{AreEnding}
 use Rattle.lf_witness.specs.Open.{IsOpen, IsLeast, IsLeastOpen}
@@ -14,16 +14,6 @@ use Rattle.lf_witness.specs.declared.second.Branch.{Branch}
 use Rattle.lf_witness.specs.Branch.{IsBranch, OnlyFrom, IsOtherMove}
 use Rattle.lf_witness.proofs.Endings.{stop_push}
 use Rattle.lf_witness.proofs.RunSteps.{opens_by, tail_runs}
-
-pub move_is : (x y : Move) → x.mark ≡ y.mark → x.to ≡ y.to → x ≡ y
-move_is x y h k = ap (λ (v : ℕ). record { mark = v; to = x.to }) h ∙ ap (λ (v : ℕ). record { mark = y.mark; to = v }) k
-
-pub move_cases : (x y : Move) → (x ≡ y) ⊎ (x ≢ y)
-move_cases x y =
-    elim (cases_eq x.mark y.mark) [
-      | inl h ↦ elim (cases_eq x.to y.to) [ inl k ↦ inl (move_is x y h k) | inr n ↦ inr (λ e. n (ap (λ (z : Move). z.to) e)) ]
-      | inr n ↦ inr (λ e. n (ap (λ (z : Move). z.mark) e))
-    ]
 
 not_less : (x y : Move) → x ≡ y → MoveLt x y → ⊥
 not_less x y e (inl lt) = absurd (let same = ap (λ (z : Move). z.mark) e in omega (arith, lt, same))

@@ -6,7 +6,7 @@ use Rattle.lf_core.specs.Written.{machine_of}
 use Rattle.lf_product.specs.Distance.{differed_by}
 use Rattle.lf_witness.specs.declared.onward.Flagged.{Flagged}
 use Rattle.lf_witness.specs.Shared.{IsLeast, IsNext}
-use Rattle.lf_witness.proofs.Lists.{contains_take_more, contains_whole}
+use Rattle.lf_product.proofs.Sweep.{contains_take_more, contains_whole}
 use Rattle.lf_witness.proofs.onward.add_pairs.Goals as goal
 
 abbrev no_move : Move

@@ -8,7 +8,7 @@ use Rattle.lf_core.specs.Written.{machine_of}
 use Rattle.lf_product.proofs.SameMachine.{lawful_are}
 use Rattle.lf_witness.specs.declared.onward.Flagged.{Flagged}
 use Rattle.lf_witness.specs.Shared.{IsNextOf}
-use Rattle.lf_witness.proofs.Lists.{contains_none}
+use Rattle.lf_product.proofs.Sweep.{contains_none}
 use Rattle.lf_witness.proofs.LineSteps.{leads_on}
 use Rattle.lf_witness.proofs.onward.least_onward.Goals as goal
 

@@ -8,7 +8,7 @@ use Rattle.lf_product.proofs.SameMachine.{points_are}
 use Rattle.lf_witness.proofs.SameLines.{moves_are, all_below}
 use Rattle.lf_witness.specs.declared.onward.Flagged.{Flagged}
 use Rattle.lf_witness.specs.Shared.{IsNext}
-use Rattle.lf_witness.proofs.Lists.{contains_take_more, contains_whole}
+use Rattle.lf_product.proofs.Sweep.{contains_take_more, contains_whole}
 use Rattle.lf_witness.proofs.onward.next_on.Goals as goal
 
 abbrev no_pair : Flagged

@@ -5,7 +5,7 @@ use Rattle.lf_core.specs.declared.marked.Move.{Move}
 use Rattle.lf_core.specs.Marked.{no_move}
 use Rattle.lf_witness.specs.Steps.{told}
 use Rattle.lf_witness.specs.Heads.{IsNextPoint}
-use Rattle.lf_witness.proofs.Lists.{contains_take_more, contains_whole}
+use Rattle.lf_product.proofs.Sweep.{contains_take_more, contains_whole}
 use Rattle.lf_witness.proofs.points.add_points.Goals as goal
 
 pub loop-x-preserved : goal.loop-x-preserved

@@ -4,7 +4,7 @@ use Rattle.std.proofs.lemmas.Bool.{cases_lt}
 use Rattle.std.proofs.lemmas.List.{nil_from_length}
 use Rattle.lf_core.specs.Marked.{Machine}
 use Rattle.lf_witness.specs.Heads.{IsNextFrom}
-use Rattle.lf_witness.proofs.Lists.{contains_none}
+use Rattle.lf_product.proofs.Sweep.{contains_none}
 use Rattle.lf_witness.proofs.HeadLaws.{level_leads}
 use Rattle.lf_witness.proofs.points.least_byte.Goals as goal
 

@@ -5,7 +5,7 @@ use Rattle.std.proofs.lemmas.List.Elements.{Contains-get_or}
 use Rattle.lf_core.specs.declared.marked.Move.{Move}
 use Rattle.lf_core.specs.Marked.{Machine, IsMachine}
 use Rattle.lf_witness.specs.Heads.{IsNextPoint}
-use Rattle.lf_witness.proofs.Lists.{contains_take_more, contains_whole}
+use Rattle.lf_product.proofs.Sweep.{contains_take_more, contains_whole}
 use Rattle.lf_witness.proofs.points.next_points.Goals as goal
 
 pub moves_of-requires : goal.moves_of-requires

@@ -4,7 +4,7 @@ use Rattle.std.proofs.lemmas.Bool.{cases_lt}
 use Rattle.lf_core.specs.declared.marked.Move.{Move}
 use Rattle.lf_core.specs.Marked.{Machine, IsMachine}
 use Rattle.lf_witness.proofs.StepLaws.{not_both}
-use Rattle.lf_witness.proofs.Lists.{contains_none}
+use Rattle.lf_product.proofs.Sweep.{contains_none}
 use Rattle.lf_witness.proofs.steps.leads.Goals as goal
 
 pub loop-byte-preserved : goal.loop-byte-preserved
