@@ -27,17 +27,27 @@ pub(crate) fn staying_fork(alloc: Global, forked: bool) -> Result<SmallMachine, 
     Ok(m)
 }
 
-/// Adds no move on a byte below `a`, two on `a`, and one on a byte above it.
+/// Adds the last move, and of the first ten those whose binary digit the number has.
+fn add_digits(m: &mut SmallMachine, from: u8, byte: u8, number: u32) -> Result<(), OutOfMemory> {
+    for digit in 0..10u32 {
+        if (number >> digit) % 2 == 1 {
+            m.add(from, byte, digit as u8)?;
+        }
+    }
+    m.add(from, byte, 11)
+}
+
+/// Adds no move on a byte below `a`, two on `a`, and on each byte above it moves that no other point and byte have.
 fn add_row(m: &mut SmallMachine, from: u8) -> Result<(), OutOfMemory> {
     m.add(from, b'a', 7)?;
     m.add(from, b'a', 8)?;
-    for byte in 98..256u32 {
-        m.add(from, byte as u8, ((from as u32 + byte) % 12) as u8)?;
+    for above in 0..158u32 {
+        add_digits(m, from, (above + 98) as u8, from as u32 * 158 + above)?;
     }
     Ok(())
 }
 
-/// The same moves from each point, but for their numbers. The second point is the start, and the fourth is the end.
+/// The same moves from each point on the bytes up to `a`. The second point is the start, and the fourth is the end.
 pub(crate) fn full_machine(alloc: Global) -> Result<SmallMachine, OutOfMemory> {
     let mut m = SmallMachine::new(alloc, 1)?;
     for from in 0..POINTS {

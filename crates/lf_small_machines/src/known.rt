@@ -97,20 +97,26 @@ fn witnesses_are_known(rt: HostRuntime) {
     assert!(rt; has_witness(rt.alloc(), false) == Ok(true), "one way");
 }
 
-/// Whether this is the fork's least line that begins with the byte, with its least run; the empty line where there is none.
-fn begins(alloc: Global, first: u8, line: &[u8], numbers: &[u32]) -> Result<bool, OutOfMemory> {
+/// Whether the fork's least line that begins with the byte is the known one, with its least run, or there is none.
+fn begins(alloc: Global, first: u8, known: Option<(&[u8], &[u32])>) -> Result<bool, OutOfMemory> {
     let m = fork(alloc, true)?;
     let Some(headed) = least_from(alloc, &m, first)? else {
-        return Ok(line.is_empty());
+        return Ok(known.is_none());
     };
-    Ok(headed.line.as_slice() == line && are_moves(headed.run.as_slice(), numbers))
+    match known {
+        Some((line, numbers)) => Ok(
+            headed.line.as_slice() == line && are_moves(headed.run.as_slice(), numbers),
+        ),
+        None => Ok(false),
+    }
 }
 
 #[test]
 fn lines_begin_with_a_byte(rt: HostRuntime) {
-    assert!(rt; begins(rt.alloc(), b'a', b"ab", &[1, 3]) == Ok(true));
+    let known = Some((b"ab".as_slice(), [1, 3].as_slice()));
+    assert!(rt; begins(rt.alloc(), b'a', known) == Ok(true));
     for byte in [b'b', b'x', 0] {
-        assert!(rt; begins(rt.alloc(), byte, b"", &[]) == Ok(true), "{byte}");
+        assert!(rt; begins(rt.alloc(), byte, None) == Ok(true), "{byte}");
     }
 }
 
@@ -310,8 +316,12 @@ fn known_moves_are_found(rt: HostRuntime) {
         (0, 96, &[][..]),
         (0, 97, &[7, 8][..]),
         (3, 97, &[7, 8][..]),
-        (2, 98, &[4][..]),
-        (3, 255, &[6][..]),
+        (0, 98, &[11][..]),
+        (0, 99, &[0, 11][..]),
+        (1, 98, &[1, 2, 3, 4, 7, 11][..]),
+        (2, 98, &[2, 3, 4, 5, 8, 11][..]),
+        (3, 255, &[0, 1, 2, 4, 5, 6, 9, 11][..]),
+        (5, 255, &[0, 1, 4, 5, 7, 8, 9, 11][..]),
     ] {
         assert!(rt;
             has_row(rt.alloc(), &written, point, byte, numbers) == Ok(true),

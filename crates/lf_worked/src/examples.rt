@@ -8,15 +8,15 @@ use std::thread::Threads;
 
 /// How many bytes the source gives and the sinks take at a time, and the numbers of their failing calls.
 #[derive(Clone, Copy)]
-pub struct Streams<'a> {
-    pub piece: usize,
-    pub input: &'a [u32],
-    pub taken: usize,
-    pub out: &'a [u32],
-    pub err: &'a [u32],
+pub(crate) struct Streams<'a> {
+    pub(crate) piece: usize,
+    pub(crate) input: &'a [u32],
+    pub(crate) taken: usize,
+    pub(crate) out: &'a [u32],
+    pub(crate) err: &'a [u32],
 }
 
-pub const SOUND: Streams<'static> = Streams {
+pub(crate) const SOUND: Streams<'static> = Streams {
     piece: 100,
     input: &[],
     taken: 100,
@@ -26,10 +26,10 @@ pub const SOUND: Streams<'static> = Streams {
 
 /// What a run answers and writes.
 #[derive(Drop)]
-pub struct Seen {
-    pub status: u8,
-    pub out: Vec<u8>,
-    pub err: Vec<u8>,
+pub(crate) struct Seen {
+    pub(crate) status: u8,
+    pub(crate) out: Vec<u8>,
+    pub(crate) err: Vec<u8>,
 }
 
 /// The words of a text, one a line.
@@ -41,7 +41,7 @@ fn words_of(alloc: Global, text: &str) -> Result<Vec<Str>, OutOfMemory> {
     Ok(words)
 }
 
-pub fn run_bytes<R: Threads + Sync>(
+pub(crate) fn run_bytes<R: Threads + Sync>(
     rt: &R,
     alloc: Global,
     words: &[Str],
@@ -66,7 +66,7 @@ pub fn run_bytes<R: Threads + Sync>(
 }
 
 /// What a run of these words, one a line, answers and writes.
-pub fn run_text<R: Threads + Sync>(
+pub(crate) fn run_text<R: Threads + Sync>(
     rt: &R,
     alloc: Global,
     words: &str,
@@ -80,7 +80,7 @@ pub fn run_text<R: Threads + Sync>(
 }
 
 /// What differs from what is expected.
-pub fn expect(seen: &Seen, status: u8, out: &str, err: &str) -> Result<(), &'static str> {
+pub(crate) fn expect(seen: &Seen, status: u8, out: &str, err: &str) -> Result<(), &'static str> {
     if seen.status != status {
         return Err("another status");
     }
@@ -94,7 +94,7 @@ pub fn expect(seen: &Seen, status: u8, out: &str, err: &str) -> Result<(), &'sta
 }
 
 /// A run of these words, one a line, has this status and these texts, however its input is cut.
-pub fn example<R: Threads + Sync>(
+pub(crate) fn example<R: Threads + Sync>(
     rt: &R,
     alloc: Global,
     words: &str,
