@@ -14,9 +14,6 @@ use Rattle.lf_product.specs.Cells.{cell, steps_at, IsExact}
 use Rattle.lf_product.specs.Level.{pair, Waits, Reached, Grows, Complete, AllBefore, IsWhole, room}
 use Rattle.lf_product.proofs.Places.{one_if, cell-lt, cell_same, cell_swap, eqb_comm, steps_at-set_same, steps_at-set_other, steps_at-same, read_at}
 
-pub grows-refl : (n none : ℕ) (ds : List ℕ) → Grows n none ds ds
-grows-refl n none ds = record { stays = λ a b d ha hb h. refl; same_length = refl }
-
 pub grows-trans : (n none : ℕ) (ds es fs : List ℕ) → Grows n none ds es → Grows n none es fs → Grows n none ds fs
 grows-trans n none ds es fs g h = record {
   stays = λ a b d ha hb low.

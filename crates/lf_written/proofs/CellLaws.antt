@@ -7,7 +7,19 @@ use Rattle.std.proofs.Math.Seq.{get_or-append_seam, drop-append_seam}
 use Rattle.std.proofs.lemmas.Nat.{div-mul-add, mod-mul-add}
 use Rattle.lf_core.specs.declared.marked.Move.{Move}
 use Rattle.lf_core.specs.Marked.{Machine}
-use Rattle.lf_written.specs.Cells.{start_of, moves_in, IsCell, AreCells}
+use Rattle.lf_written.specs.Cells.{start_of, moves_in, AreCells, HoldMoves}
+
+-- The cell's moves stand in the list, and are the machine's from its point on its byte.
+pub record IsCell (machine : Machine) (starts : List ℕ) (moves : List Move) (cell : ℕ) : Type 0 where
+  pub ordered : start_of starts cell ≤ start_of starts (cell + 1)
+  pub within : start_of starts (cell + 1) ≤ length moves
+  pub same : moves_in starts moves cell ≡ machine.moves (cell / 256) (cell % 256)
+
+-- The first cells, so many, are the machine's, and the next one would start at the list's end.
+pub record AreFirst (machine : Machine) (starts : List ℕ) (moves : List Move) (many : ℕ) : Type 0 where
+  pub each : length starts ≡ many + 1
+  pub next : start_of starts many ≡ length moves
+  pub cells : (cell : ℕ) → cell < many → IsCell machine starts moves cell
 
 -- a part of a list is the same part of a longer one
 range_kept : (xs ys : List Move) (from to : ℕ) → from ≤ to → to ≤ length xs → slice_range (xs ++ ys) from to ≡ slice_range xs from to
@@ -56,7 +68,7 @@ cell_added m starts xs ys next cell n last e is =
     }
 
 -- one cell more
-pub more_cells : (m : Machine) (starts : List ℕ) (xs ys : List Move) (next many : ℕ) → AreCells m starts xs many → next ≡ length (xs ++ ys) → ys ≡ m.moves (many / 256) (many % 256) → AreCells m (starts ++ next ∷ []) (xs ++ ys) (many + 1)
+pub more_cells : (m : Machine) (starts : List ℕ) (xs ys : List Move) (next many : ℕ) → AreFirst m starts xs many → next ≡ length (xs ++ ys) → ys ≡ m.moves (many / 256) (many % 256) → AreFirst m (starts ++ next ∷ []) (xs ++ ys) (many + 1)
 more_cells m starts xs ys next many are e is = record {
   each = omega (arith, are.each, length-append starts (next ∷ []));
   next = start_added starts next (many + 1) are.each ∙ e;
@@ -68,17 +80,24 @@ more_cells m starts xs ys next many are e is = record {
   ];
 }
 
--- the moves of the cell of a point and a byte
-pub cell_moves : (m : Machine) (starts : List ℕ) (moves : List Move) (point byte : ℕ) → byte < 256 → IsCell m starts moves (point * 256 + byte) → moves_in starts moves (point * 256 + byte) ≡ m.moves point byte
-cell_moves m starts moves point byte h is =
-    is.same
+-- the cells of all points
+pub cells_are : (m : Machine) (starts : List ℕ) (moves : List Move) (many : ℕ) → AreFirst m starts moves many → AreCells starts moves many
+cells_are m starts moves many are = record {
+  each = are.each;
+  ordered = λ cell h. (are.cells cell h).ordered;
+  within = λ cell h. (are.cells cell h).within;
+}
+
+pub moves_held : (m : Machine) (starts : List ℕ) (moves : List Move) → AreFirst m starts moves (m.count * 256) → HoldMoves m starts moves
+moves_held m starts moves are point byte low h =
+    (are.cells (point * 256 + byte) (omega (arith, low, h))).same
     ∙ ap (λ (k : ℕ). m.moves k ((point * 256 + byte) % 256)) (div-mul-add point 256 byte h)
     ∙ ap (λ (k : ℕ). m.moves point k) (mod-mul-add point 256 byte h)
 
 -- the same, of lists that were pushed to
-pub add_cells : (m : Machine) (starts starts' : List ℕ) (xs xs' : List Move) (many : ℕ) → AreCells m starts xs many → xs' ≡ xs ++ m.moves (many / 256) (many % 256) → starts' ≡ starts ++ length xs' ∷ [] → AreCells m starts' xs' (many + 1)
+pub add_cells : (m : Machine) (starts starts' : List ℕ) (xs xs' : List Move) (many : ℕ) → AreFirst m starts xs many → xs' ≡ xs ++ m.moves (many / 256) (many % 256) → starts' ≡ starts ++ length xs' ∷ [] → AreFirst m starts' xs' (many + 1)
 add_cells m starts starts' xs xs' many are moves_is starts_is =
-    let grown : AreCells m (starts ++ length xs' ∷ []) (xs ++ m.moves (many / 256) (many % 256)) (many + 1) =
+    let grown : AreFirst m (starts ++ length xs' ∷ []) (xs ++ m.moves (many / 256) (many % 256)) (many + 1) =
     more_cells m starts xs (m.moves (many / 256) (many % 256)) (length xs') many are (ap (λ (zs : List Move). length zs) moves_is) refl in
-    subst (λ (zs : List Move). AreCells m starts' zs (many + 1)) (sym moves_is)
-    (subst (λ (ss : List ℕ). AreCells m ss (xs ++ m.moves (many / 256) (many % 256)) (many + 1)) (sym starts_is) grown)
+    subst (λ (zs : List Move). AreFirst m starts' zs (many + 1)) (sym moves_is)
+    (subst (λ (ss : List ℕ). AreFirst m ss (xs ++ m.moves (many / 256) (many % 256)) (many + 1)) (sym starts_is) grown)

@@ -1,13 +1,12 @@
 -- What is laid out in cells is the machine, written out.
-use Rattle.std.proofs.Common.{◌≡◌, ℕ, zero, suc, ◌+◌, ◌*◌, ◌<◌, List, [], ◌∷◌, ◌++◌, Bool, length, map, refl, sym, ap, ◌∙◌, arith, Result, Ok, Err}
+use Rattle.std.proofs.Common.{◌≡◌, ℕ, zero, suc, ◌+◌, ◌*◌, ◌<◌, List, [], ◌∷◌, ◌++◌, Bool, length, map, refl, sym, ap, ◌∙◌, subst, arith, Result, Ok, Err}
 use Rattle.std.specs.Prelude.{slice_index_or, OnErr}
 use Rattle.std.specs.List.{range_with_len}
 use Rattle.std.proofs.lemmas.List.FromFn.{length-map-range_with_len, get_or-map-range_with_len, map-range_with_len_more}
 use Rattle.lf_core.specs.declared.marked.Move.{Move}
 use Rattle.lf_core.specs.Marked.{Machine}
 use Rattle.lf_core.specs.Written.{WrittenMachine, points_of, moves_at, written_row, written}
-use Rattle.lf_written.specs.Cells.{moves_in, AreCells, row_in, laid_out, AreLaid}
-use Rattle.lf_written.proofs.CellLaws.{cell_moves}
+use Rattle.lf_written.specs.Cells.{moves_in, AreCells, HoldMoves, row_in, laid_out, AreLaid}
 
 -- one element more
 pub push_made : {X : Type 0} (f : ℕ → X) (xs : List X) (x : X) (k : ℕ) → xs ≡ map f (range_with_len 0 k) → x ≡ f k → xs ++ x ∷ [] ≡ map f (range_with_len 0 (k + 1))
@@ -25,13 +24,12 @@ map_from {X} f g a (suc n) h =
 map_same : {X : Type 0} (f g : ℕ → X) (n : ℕ) → ((k : ℕ) → k < n → f k ≡ g k) → map f (range_with_len 0 n) ≡ map g (range_with_len 0 n)
 map_same f g n h = map_from f g 0 n (λ k lt. h k (omega (arith, lt)))
 
-row_same : (m : Machine) (starts : List ℕ) (moves : List Move) (point : ℕ) → point < m.count → AreCells m starts moves (m.count * 256) → row_in starts moves point ≡ written_row m point
+row_same : (m : Machine) (starts : List ℕ) (moves : List Move) (point : ℕ) → point < m.count → HoldMoves m starts moves → row_in starts moves point ≡ written_row m point
 unfolding written_row
-row_same m starts moves point low are =
-    map_same (λ byte. moves_in starts moves (point * 256 + byte)) (m.moves point) 256
-    (λ byte lt. cell_moves m starts moves point byte lt (are.cells (point * 256 + byte) (omega (arith, low, lt))))
+row_same m starts moves point low held =
+    map_same (λ byte. moves_in starts moves (point * 256 + byte)) (m.moves point) 256 (λ byte lt. held point byte low lt)
 
-pub laid_is_written : (m : Machine) (points first : ℕ) (starts : List ℕ) (moves : List Move) (flags : List Bool) → points ≡ m.count → first ≡ m.first → AreCells m starts moves (m.count * 256) → flags ≡ map m.is_end (range_with_len 0 m.count) → laid_out points first starts moves flags ≡ written m
+pub laid_is_written : (m : Machine) (points first : ℕ) (starts : List ℕ) (moves : List Move) (flags : List Bool) → points ≡ m.count → first ≡ m.first → HoldMoves m starts moves → flags ≡ map m.is_end (range_with_len 0 m.count) → laid_out points first starts moves flags ≡ written m
 laid_is_written m points first starts moves flags many one are ends =
     let rows : map (row_in starts moves) (range_with_len 0 points) ≡ map (written_row m) (range_with_len 0 m.count) =
     ap (λ (k : ℕ). map (row_in starts moves) (range_with_len 0 k)) many
@@ -40,12 +38,10 @@ laid_is_written m points first starts moves flags many one are ends =
     ∙ ap (λ (rs : List (List (List Move))). record { start = m.first; rows = rs; ends = flags }) rows
     ∙ ap (λ (fs : List Bool). record { start = m.first; rows = (written m).rows; ends = fs }) ends
 
-pub cells_laid : (m : Machine) (points : ℕ) (starts : List ℕ) (moves : List Move) (flags : List Bool) → points ≡ m.count → AreCells m starts moves (m.count * 256) → flags ≡ map m.is_end (range_with_len 0 m.count) → AreLaid points starts moves flags
+pub cells_laid : (m : Machine) (points : ℕ) (starts : List ℕ) (moves : List Move) (flags : List Bool) → points ≡ m.count → AreCells starts moves (m.count * 256) → flags ≡ map m.is_end (range_with_len 0 m.count) → AreLaid points starts moves flags
 cells_laid m points starts moves flags many are ends = record {
-  each_cell = omega (arith, many, are.each);
+  cells = subst (λ (k : ℕ). AreCells starts moves (k * 256)) (sym many) are;
   each_point = ap (λ (fs : List Bool). length fs) ends ∙ length-map-range_with_len m.is_end 0 m.count ∙ sym many;
-  ordered = λ cell lt. (are.cells cell (omega (arith, lt, many))).ordered;
-  within = λ cell lt. (are.cells cell (omega (arith, lt, many))).within;
 }
 
 pub laid_points : (points first : ℕ) (starts : List ℕ) (moves : List Move) (flags : List Bool) → points_of (laid_out points first starts moves flags) ≡ points

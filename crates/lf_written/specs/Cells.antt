@@ -1,5 +1,5 @@
 -- A machine's moves in one list, cell by cell.
-use Rattle.std.specs.Prelude.{◌≡◌, ℕ, ◌+◌, ◌*◌, ◌/◌, ◌%◌, ◌<◌, ◌≤◌, List, Bool, length, map, slice_index_or, slice_range}
+use Rattle.std.specs.Prelude.{◌≡◌, ℕ, ◌+◌, ◌*◌, ◌<◌, ◌≤◌, List, Bool, length, map, slice_index_or, slice_range}
 use Rattle.std.specs.List.{range_with_len}
 use Rattle.lf_core.specs.declared.marked.Move.{Move}
 use Rattle.lf_core.specs.Marked.{Machine}
@@ -13,17 +13,16 @@ start_of starts cell = slice_index_or starts cell 0
 abbrev pub moves_in : List ℕ → List Move → ℕ → List Move
 moves_in starts moves cell = slice_range moves (start_of starts cell) (start_of starts (cell + 1))
 
--- The cell's moves stand in the list, and are the machine's from its point on its byte.
-pub record IsCell (machine : Machine) (starts : List ℕ) (moves : List Move) (cell : ℕ) : Type 0 where
-  pub ordered : start_of starts cell ≤ start_of starts (cell + 1)
-  pub within : start_of starts (cell + 1) ≤ length moves
-  pub same : moves_in starts moves cell ≡ machine.moves (cell / 256) (cell % 256)
-
--- The first cells, so many, are the machine's, and the next one would start at the list's end.
-pub record AreCells (machine : Machine) (starts : List ℕ) (moves : List Move) (many : ℕ) : Type 0 where
+-- There are so many cells, and each one's moves stand in the list.
+pub record AreCells (starts : List ℕ) (moves : List Move) (many : ℕ) : Type 0 where
   pub each : length starts ≡ many + 1
-  pub next : start_of starts many ≡ length moves
-  pub cells : (cell : ℕ) → cell < many → IsCell machine starts moves cell
+  pub ordered : (cell : ℕ) → cell < many → start_of starts cell ≤ start_of starts (cell + 1)
+  pub within : (cell : ℕ) → cell < many → start_of starts (cell + 1) ≤ length moves
+
+-- The machine's moves from each point on each byte are those of their cell.
+abbrev pub HoldMoves : Machine → List ℕ → List Move → Type 0
+HoldMoves machine starts moves =
+    (point byte : ℕ) → point < machine.count → byte < 256 → moves_in starts moves (point * 256 + byte) ≡ machine.moves point byte
 
 -- the moves from a point, byte by byte
 abbrev pub row_in : List ℕ → List Move → ℕ → List (List Move)
@@ -37,9 +36,7 @@ laid_out points first starts moves flags = record {
   ends = flags;
 }
 
--- There are 256 cells for each point, each one's moves stand in the list, and each point says whether it is an end.
+-- There are 256 cells for each point, and each point says whether it is an end.
 pub record AreLaid (points : ℕ) (starts : List ℕ) (moves : List Move) (flags : List Bool) : Type 0 where
-  pub each_cell : length starts ≡ points * 256 + 1
+  pub cells : AreCells starts moves (points * 256)
   pub each_point : length flags ≡ points
-  pub ordered : (cell : ℕ) → cell < points * 256 → start_of starts cell ≤ start_of starts (cell + 1)
-  pub within : (cell : ℕ) → cell < points * 256 → start_of starts (cell + 1) ≤ length moves

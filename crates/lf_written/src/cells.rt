@@ -1,7 +1,7 @@
 //! A machine's moves in one list.
 ghost use Rattle.std.specs.Prelude.{◌≡◌, ℕ, ◌<◌, ◌≤◌, ◌+◌, ◌*◌, ◌++◌, [], ◌∷◌, length, OnOk, IfOk};
 ghost use Rattle.lf_core.specs.Marked.{Machine};
-ghost use Rattle.lf_written.specs.Cells.{start_of, moves_in, AreCells};
+ghost use Rattle.lf_written.specs.Cells.{start_of, moves_in, AreCells, HoldMoves};
 
 use lf_core::{Marked, Move, OutOfMemory};
 use smallvec::SmallVec;
@@ -65,8 +65,9 @@ fn add_cell<M: Marked>(
 
 /// The cells of a machine's points.
 pub(crate) fn cells_of<M: Marked>(alloc: Global, m: &M) -> Result<Cells, OutOfMemory>
-    ensures { IfOk result (λ cells.
-        AreCells (M.machine m.now) cells.starts.items cells.moves.items ((M.machine m.now).count * 256)) }
+    ensures cells { IfOk result (λ cells.
+        AreCells cells.starts.items cells.moves.items ((M.machine m.now).count * 256)) }
+    ensures moves { IfOk result (λ cells. HoldMoves (M.machine m.now) cells.starts.items cells.moves.items) }
 {
     let mut list = SmallVec::new(alloc);
     let mut cells = no_cells(alloc)?;
