@@ -1,30 +1,32 @@
 -- A directive that is taken apart by lengths.
-use Rattle.std.proofs.Common.{◌≡◌, ℕ, ◌≤◌, ◌+◌, ◌-◌, Bool, true, false, cond, not, eqb, List, [], ◌∷◌, ◌++◌, length, take, drop, Option, Some, None, Result, Ok, Err, sym, ap, subst, ◌∙◌, append_assoc, length-append, arith}
+use Rattle.std.proofs.Common.{◌≡◌, ℕ, ◌≤◌, ◌+◌, ◌-◌, Bool, true, false, cond, not, eqb, List, [], ◌∷◌, ◌++◌, length, take, drop, Option, Some, Result, Ok, Err, sym, ap, subst, ◌∙◌, append_assoc, length-append, arith}
 use Rattle.std.specs.List.{prefix_len}
 use Rattle.std.proofs.Math.Dec.{eqb-suc-zero}
 use Rattle.std.proofs.lemmas.List.{take_at, drop_at}
-use Rattle.lf_format.specs.Items.{Failed}
-use Rattle.lf_format.specs.declared.fault.Cause.TheVariants.{BadFlags, Unclosed}
-use Rattle.lf_format.specs.declared.fault.ItemFault.{ItemFault}
-use Rattle.lf_format.specs.declared.fault.ItemFault.TheVariants as fault
-use Rattle.lf_format.specs.declared.front.Taken.{Taken}
-use Rattle.lf_format.specs.declared.front.Given.{Given}
-use Rattle.lf_format.specs.declared.front.Given.TheVariants.{Slot}
+use Rattle.lf_spelling.specs.Items.{Failed}
+use Rattle.lf_spelling.specs.declared.fault.Cause.TheVariants.{BadFlags, Unclosed}
+use Rattle.lf_spelling.specs.declared.fault.ItemFault.{ItemFault}
+use Rattle.lf_spelling.specs.declared.fault.ItemFault.TheVariants as fault
+use Rattle.lf_spelling.specs.declared.front.Taken.{Taken}
+use Rattle.lf_spelling.specs.declared.front.Given.{Given}
+use Rattle.lf_spelling.specs.declared.front.Given.TheVariants.{Slot}
 use Rattle.lf_format.specs.declared.slot.Absent.{Absent}
 use Rattle.lf_format.specs.declared.slot.Absent.TheVariants.{Dash}
 use Rattle.apache_front.specs.declared.table.Row.{Row}
 use Rattle.apache_front.specs.Table.{row_of}
-use Rattle.lf_format.specs.Runs.{run, past}
-use Rattle.apache_front.specs.Directive.{is_flag, are_flags, is_inside, Directive, braced, spelling, row_slot, slot_of, absence, flags_of, after_flags, side_of, after_side, name_of, is_unclosed, after_name, is_nothing, without_first}
+use Rattle.lf_spelling.specs.Runs.{run}
+use Rattle.apache_front.specs.Directive.{is_flag, are_flags, Directive, braced, spelling, row_slot, slot_of, absence, flags_of, after_flags, side_of, after_side, name_of, after_name}
 use Rattle.apache_front.specs.Reading.{found, on_letter, on_directive, Gives, GivesLetter}
-use Rattle.lf_format.proofs.RunCuts.{run_len}
-use Rattle.apache_front.specs.Parts.{flags_join, side_join, named}
+use Rattle.lf_spelling.specs.RunLaws.{run_len}
+use Rattle.lf_spelling.specs.Enclosed.{is_unclosed, IsPart}
+use Rattle.lf_spelling.specs.EnclosedLaws.{enclosed_parts}
+use Rattle.apache_front.specs.Parts.{flags_join, side_join}
 use Rattle.apache_front.specs.Letters.{letter_low}
 use Rattle.apache_front.specs.AgainLaws.{good_row}
 use Rattle.apache_front.specs.FaultLaws.{letter_fails}
 use Rattle.std.specs.Str.{IsUtf8}
-use Rattle.lf_format.specs.Cuts.{EndsText}
-use Rattle.lf_format.proofs.TextCuts.{text_between}
+use Rattle.lf_spelling.specs.Cuts.{EndsText}
+use Rattle.lf_spelling.specs.TextLaws.{text_between, text_after}
 
 pub flags_taken : (text : List ℕ) (n : ℕ) → n ≡ length (flags_of text) → (take n text ≡ flags_of text) × (drop n text ≡ after_flags text) × (n ≤ length text)
 flags_taken text n is =
@@ -45,43 +47,28 @@ flags_plain text b rest is other =
     ap (prefix_len is_flag) is ∙ run_len is_flag (b ∷ rest) ∙ ap length (sym e) ∙ ap (λ (t : List ℕ). length (flags_of t)) (sym is)
 
 pub bad_flags : (text : List ℕ) → are_flags (flags_of text) ≡ false → on_directive text ≡ Failed BadFlags
-bad_flags text bad = ap (λ v. cond (not v) (Failed BadFlags) (cond (is_unclosed (after_side (after_flags text))) (Failed Unclosed) (on_letter (flags_of text) (side_of (after_flags text)) (name_of (after_side (after_flags text))) (after_name (after_side (after_flags text)))))) bad
+bad_flags text bad = ap (λ v. cond (not v) (Failed BadFlags) (cond (is_unclosed 123 125 (after_side (after_flags text))) (Failed Unclosed) (on_letter (flags_of text) (side_of (after_flags text)) (name_of (after_side (after_flags text))) (after_name (after_side (after_flags text)))))) bad
 
-good_flags : (text : List ℕ) (named_text : List ℕ) → are_flags (flags_of text) ≡ true → after_side (after_flags text) ≡ named_text → on_directive text ≡ cond (is_unclosed named_text) (Failed Unclosed) (on_letter (flags_of text) (side_of (after_flags text)) (name_of named_text) (after_name named_text))
+good_flags : (text named_text : List ℕ) → are_flags (flags_of text) ≡ true → after_side (after_flags text) ≡ named_text → on_directive text ≡ cond (is_unclosed 123 125 named_text) (Failed Unclosed) (on_letter (flags_of text) (side_of (after_flags text)) (name_of named_text) (after_name named_text))
 good_flags text named_text good is =
-    ap (λ v. cond (not v) (Failed BadFlags) (cond (is_unclosed (after_side (after_flags text))) (Failed Unclosed) (on_letter (flags_of text) (side_of (after_flags text)) (name_of (after_side (after_flags text))) (after_name (after_side (after_flags text)))))) good
-    ∙ ap (λ (t : List ℕ). cond (is_unclosed t) (Failed Unclosed) (on_letter (flags_of text) (side_of (after_flags text)) (name_of t) (after_name t))) is
+    ap (λ v. cond (not v) (Failed BadFlags) (cond (is_unclosed 123 125 (after_side (after_flags text))) (Failed Unclosed) (on_letter (flags_of text) (side_of (after_flags text)) (name_of (after_side (after_flags text))) (after_name (after_side (after_flags text)))))) good
+    ∙ ap (λ (t : List ℕ). cond (is_unclosed 123 125 t) (Failed Unclosed) (on_letter (flags_of text) (side_of (after_flags text)) (name_of t) (after_name t))) is
 
-pub ends_early : (text named_text : List ℕ) → are_flags (flags_of text) ≡ true → after_side (after_flags text) ≡ named_text → named_text ≡ [] → on_directive text ≡ Failed Unclosed
-ends_early text named_text good is none = good_flags text [] good (is ∙ none)
+-- the name's brace is left open
+pub left_open : (text named_text : List ℕ) → are_flags (flags_of text) ≡ true → after_side (after_flags text) ≡ named_text → is_unclosed 123 125 named_text ≡ true → on_directive text ≡ Failed Unclosed
+left_open text named_text good is shut = good_flags text named_text good is ∙ ap (λ v. cond v (Failed Unclosed) (on_letter (flags_of text) (side_of (after_flags text)) (name_of named_text) (after_name named_text))) shut
 
-pub unnamed : (text named_text : List ℕ) (b : ℕ) (rest : List ℕ) → are_flags (flags_of text) ≡ true → after_side (after_flags text) ≡ named_text → named_text ≡ b ∷ rest → eqb b 123 ≡ false → on_directive text ≡ on_letter (flags_of text) (side_of (after_flags text)) None named_text
-unnamed text named_text b rest good is first other =
-    good_flags text (b ∷ rest) good (is ∙ first)
-    ∙ ap (λ v. cond (cond v (is_nothing (past is_inside rest)) false) (Failed Unclosed) (on_letter (flags_of text) (side_of (after_flags text)) (cond v (Some (run is_inside rest)) None) (cond v (without_first (past is_inside rest)) (b ∷ rest)))) other
-    ∙ ap (λ (t : List ℕ). on_letter (flags_of text) (side_of (after_flags text)) None t) (sym first)
+-- the letter follows the name, or stands where none is
+pub at_letter : (text named_text : List ℕ) (name : Option (List ℕ)) (tail : List ℕ) → are_flags (flags_of text) ≡ true → after_side (after_flags text) ≡ named_text → IsPart 123 125 named_text name tail → on_directive text ≡ on_letter (flags_of text) (side_of (after_flags text)) name tail
+at_letter text named_text name tail good is part =
+    good_flags text named_text good is
+    ∙ ap (λ v. cond v (Failed Unclosed) (on_letter (flags_of text) (side_of (after_flags text)) (name_of named_text) (after_name named_text))) part.shut
+    ∙ ap (λ (n : Option (List ℕ)). on_letter (flags_of text) (side_of (after_flags text)) n (after_name named_text)) part.part_is
+    ∙ ap (λ (t : List ℕ). on_letter (flags_of text) (side_of (after_flags text)) name t) part.rest_is
 
-braced_here : (text named_text : List ℕ) (b : ℕ) (inside closed : List ℕ) → are_flags (flags_of text) ≡ true → after_side (after_flags text) ≡ named_text → named_text ≡ b ∷ inside → b ≡ 123 → past is_inside inside ≡ closed
-    → on_directive text ≡ cond (is_nothing closed) (Failed Unclosed) (on_letter (flags_of text) (side_of (after_flags text)) (Some (run is_inside inside)) (without_first closed))
-braced_here text named_text b inside closed good is first brace cut =
-    good_flags text (123 ∷ inside) good (is ∙ first ∙ ap (λ (n : ℕ). n ∷ inside) brace)
-    ∙ ap (λ (t : List ℕ). cond (is_nothing t) (Failed Unclosed) (on_letter (flags_of text) (side_of (after_flags text)) (Some (run is_inside inside)) (without_first t))) cut
-
-pub ends_in_name : (text named_text : List ℕ) (b : ℕ) (inside closed : List ℕ) → are_flags (flags_of text) ≡ true → after_side (after_flags text) ≡ named_text → named_text ≡ b ∷ inside → b ≡ 123 → past is_inside inside ≡ closed → closed ≡ [] → on_directive text ≡ Failed Unclosed
-ends_in_name text named_text b inside closed good is first brace cut none = braced_here text named_text b inside [] good is first brace (cut ∙ none)
-
-pub with_name : (text named_text : List ℕ) (b : ℕ) (inside closed : List ℕ) (c : ℕ) (tail : List ℕ) → are_flags (flags_of text) ≡ true → after_side (after_flags text) ≡ named_text → named_text ≡ b ∷ inside → b ≡ 123 → past is_inside inside ≡ closed → closed ≡ c ∷ tail
-    → on_directive text ≡ on_letter (flags_of text) (side_of (after_flags text)) (Some (run is_inside inside)) tail
-with_name text named_text b inside closed c tail good is first brace cut some = braced_here text named_text b inside (c ∷ tail) good is first brace (cut ∙ some)
-
-pub parts_unnamed : (text named_text : List ℕ) → after_side (after_flags text) ≡ named_text → text ≡ flags_of text ++ (side_of (after_flags text) ++ (braced None ++ named_text))
-parts_unnamed text named_text is = sym (flags_join text) ∙ ap (λ (t : List ℕ). flags_of text ++ t) (sym (side_join (after_flags text)) ∙ ap (λ (t : List ℕ). side_of (after_flags text) ++ t) is)
-
-pub parts_named : (text named_text : List ℕ) (b : ℕ) (inside closed : List ℕ) (c : ℕ) (tail : List ℕ) → after_side (after_flags text) ≡ named_text → named_text ≡ b ∷ inside → b ≡ 123 → past is_inside inside ≡ closed → closed ≡ c ∷ tail
-    → text ≡ flags_of text ++ (side_of (after_flags text) ++ (braced (Some (run is_inside inside)) ++ tail))
-parts_named text named_text b inside closed c tail is first brace cut some =
-    let n = named (123 ∷ inside) (ap is_nothing (cut ∙ some)) in
-    let here : named_text ≡ braced (Some (run is_inside inside)) ++ tail = first ∙ ap (λ (n : ℕ). n ∷ inside) brace ∙ n.parts ∙ ap (λ (t : List ℕ). braced (Some (run is_inside inside)) ++ without_first t) (cut ∙ some) in
+pub parts : (text named_text : List ℕ) (name : Option (List ℕ)) (tail : List ℕ) → after_side (after_flags text) ≡ named_text → IsPart 123 125 named_text name tail → text ≡ flags_of text ++ (side_of (after_flags text) ++ (braced name ++ tail))
+parts text named_text name tail is part =
+    let here : named_text ≡ braced name ++ tail = (enclosed_parts 123 125 named_text part.shut).parts ∙ ap (λ (n : Option (List ℕ)). braced n ++ after_name named_text) part.part_is ∙ ap (λ (t : List ℕ). braced name ++ t) part.rest_is in
     sym (flags_join text) ∙ ap (λ (t : List ℕ). flags_of text ++ t) (sym (side_join (after_flags text)) ∙ ap (λ (t : List ℕ). side_of (after_flags text) ++ t) (is ∙ here))
 
 same_absence : (flags : List ℕ) (has_flags : Bool) (absent : Absent) → has_flags ≡ not (eqb (length flags) 0) → cond has_flags Dash absent ≡ absence flags absent
@@ -117,12 +104,12 @@ gives text flags side name tail has_flags (Ok taken) whole read has h =
 pub tail_last : (text a b c tail : List ℕ) → text ≡ a ++ (b ++ (c ++ tail)) → (front : List ℕ) × (text ≡ front ++ tail)
 tail_last text a b c tail is = (a ++ (b ++ c), is ∙ sym (simp append_assoc))
 
--- a directive is text
-pub directive_text : (text tail : List ℕ) (letter : ℕ) (after : List ℕ) (row : Row) (last : (front : List ℕ) × (text ≡ front ++ tail)) → EndsText (37 ∷ text) → tail ≡ letter ∷ after → row_of letter ≡ Some row → (n : ℕ) → n ≡ length text - length after → IsUtf8 (37 ∷ take n text)
+-- what follows the percent sign of a directive is text
+pub directive_text : (text tail : List ℕ) (letter : ℕ) (after : List ℕ) (row : Row) (last : (front : List ℕ) × (text ≡ front ++ tail)) → EndsText (37 ∷ text) → tail ≡ letter ∷ after → row_of letter ≡ Some row → (n : ℕ) → n ≡ length text - length after → IsUtf8 (take n text)
 directive_text text tail letter after row last ends is row_is n n_is =
     let cut : text ≡ last.0 ++ letter ∷ after = last.1 ∙ ap (λ (t : List ℕ). last.0 ++ t) is in
     let parts : text ≡ (last.0 ++ letter ∷ []) ++ after = cut ∙ sym (append_assoc last.0 (letter ∷ []) after) in
     let len : length (last.0 ++ letter ∷ []) ≡ n = omega (arith, n_is, ap length parts, length-append (last.0 ++ letter ∷ []) after) in
     let taken : take n text ≡ last.0 ++ letter ∷ [] = ap (take n) parts ∙ take_at (last.0 ++ letter ∷ []) after n len in
     let whole : IsUtf8 (ends.0 ++ 37 ∷ (last.0 ++ letter ∷ after)) = subst (λ (t : List ℕ). IsUtf8 (ends.0 ++ 37 ∷ t)) cut ends.1 in
-    subst (λ (t : List ℕ). IsUtf8 (37 ∷ t)) (sym taken) (text_between ends.0 37 last.0 letter after whole (omega arith) (letter_low letter row row_is))
+    text_after 37 (take n text) (subst (λ (t : List ℕ). IsUtf8 (37 ∷ t)) (sym taken) (text_between ends.0 37 last.0 letter after whole (omega arith) (letter_low letter row row_is))) (omega arith)

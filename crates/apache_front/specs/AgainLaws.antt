@@ -1,21 +1,26 @@
 -- What stands at the front of a text is read there.
 use Rattle.std.proofs.Common.{◌≡◌, ℕ, ◌≤◌, Bool, true, false, cond, not, ◌&&◌, eqb, List, [], ◌∷◌, ◌++◌, length, Option, Some, None, refl, sym, ap, subst, ◌∙◌, append_assoc, arith, inl, inr}
-use Rattle.std.specs.Prelude.{IfSome, is_some}
+use Rattle.std.specs.Prelude.{is_some}
 use Rattle.std.specs.List.{list_all}
 use Rattle.std.proofs.lemmas.Bool.{eqb-true, cases_Bool, and_parts, and_from, or_parts, or_cases, not-true}
-use Rattle.lf_format.specs.Runs.{run, past}
-use Rattle.lf_format.proofs.RunCuts.{stops, IsCut, run_again}
-use Rattle.lf_format.specs.Items.{Reading, Failed}
-use Rattle.lf_format.specs.declared.fault.Cause.TheVariants.{LineBreak, BadFlags, Unclosed, BadName}
-use Rattle.lf_format.specs.declared.front.Given.{Given}
-use Rattle.lf_format.specs.declared.front.Given.TheVariants.{Byte, Slot}
+use Rattle.lf_spelling.specs.Runs.{run, past}
+use Rattle.lf_spelling.specs.Runs.{stops}
+use Rattle.lf_spelling.specs.RunLaws.{IsCut, run_again, apart}
+use Rattle.lf_spelling.specs.Texts.{is_digit, begins_with}
+use Rattle.lf_spelling.specs.Enclosed.{is_unclosed}
+use Rattle.lf_spelling.specs.EnclosedLaws.{part_again}
+use Rattle.lf_spelling.specs.ItemLaws.{at_both}
+use Rattle.lf_spelling.specs.Items.{Reading, Failed}
+use Rattle.lf_spelling.specs.declared.fault.Cause.TheVariants.{LineBreak, BadFlags, Unclosed, BadName}
+use Rattle.lf_spelling.specs.declared.front.Given.{Given}
+use Rattle.lf_spelling.specs.declared.front.Given.TheVariants.{Byte, Slot}
 use Rattle.apache_front.specs.declared.front.Apache.{Apache}
 use Rattle.apache_front.specs.declared.table.Row.{Row}
 use Rattle.apache_front.specs.Table.{row_of, takes}
-use Rattle.apache_front.specs.Directive.{is_digit, is_flag, is_status_list, are_flags, is_angle, is_side, is_inside, Directive, braced, spelling, IsDirective, slot_of, flags_of, after_flags, side_of, after_side, name_of, is_unclosed, after_name, is_nothing, without_first}
-use Rattle.apache_front.specs.Items.{escaped, begins_with, begins_escape, is_plain, IsItem, plain, escape, backslash, percent, directive}
+use Rattle.apache_front.specs.Directive.{is_flag, is_status_list, are_flags, is_angle, is_side, Directive, braced, spelling, IsDirective, slot_of, flags_of, after_flags, side_of, after_side, name_of, after_name}
+use Rattle.apache_front.specs.Items.{escaped, begins_escape, is_plain, IsItem, plain, escape, backslash, percent, directive}
 use Rattle.apache_front.specs.Reading.{found, on_row, on_letter, on_directive, on_percent, on_escape, on_backslash, reading}
-use Rattle.apache_front.specs.Letters.{is_lettered, table_lettered, apart, lettered_no, not_flag}
+use Rattle.apache_front.specs.Letters.{is_lettered, table_lettered, lettered_no, not_flag}
 
 digit_flag : (b : ℕ) → is_digit b ≡ true → is_flag b ≡ true
 digit_flag b h = rw h refl
@@ -57,26 +62,6 @@ side_again [] (b ∷ text) good stop = let hno = not-true (is_angle b) stop in r
 side_again (b ∷ []) text good stop = record { front_is = ap (λ v. cond v (b ∷ []) []) good; back_is = ap (λ v. cond v text (b ∷ text)) good }
 side_again (b ∷ c ∷ s) text good stop = absurd cc
 
-record NameCut (text : List ℕ) (name : Option (List ℕ)) (tail : List ℕ) : Type 0 where
-  name_is : name_of text ≡ name
-  tail_is : after_name text ≡ tail
-  shut : is_unclosed text ≡ false
-
-name_again : (name : Option (List ℕ)) (letter : ℕ) (after : List ℕ) → IfSome name (λ n. list_all is_inside n ≡ true) → eqb letter 123 ≡ false → NameCut (braced name ++ letter ∷ after) name (letter ∷ after)
-name_again None letter after closed hno = record {
-  name_is = ap (λ v. cond v (Some (run is_inside after)) None) hno;
-  tail_is = ap (λ v. cond v (without_first (past is_inside after)) (letter ∷ after)) hno;
-  shut = ap (λ v. cond v (is_nothing (past is_inside after)) false) hno;
-}
-name_again (Some n) letter after closed hno =
-    let more = run_again is_inside n (125 ∷ letter ∷ after) closed refl in
-    let parts : (n ++ 125 ∷ []) ++ letter ∷ after ≡ n ++ 125 ∷ letter ∷ after = append_assoc n (125 ∷ []) (letter ∷ after) in
-    record {
-      name_is = ap (λ (t : List ℕ). Some (run is_inside t)) parts ∙ ap (λ (t : List ℕ). Some t) more.front_is;
-      tail_is = ap (λ (t : List ℕ). without_first (past is_inside t)) parts ∙ ap without_first more.back_is;
-      shut = ap (λ (t : List ℕ). is_nothing (past is_inside t)) parts ∙ ap is_nothing more.back_is;
-    }
-
 -- no byte of a side or of a brace passes, and the letter doesn't
 stops_named : (p : ℕ → Bool) (name : Option (List ℕ)) (letter : ℕ) (after : List ℕ) → p 123 ≡ false → p letter ≡ false → stops p (braced name ++ letter ∷ after) ≡ true
 stops_named p None letter after brace hno = ap not hno
@@ -106,7 +91,7 @@ percent_other (c ∷ text) hno = ap (λ v. cond v (found (37 ∷ 37 ∷ []) (Byt
 abbrev pub on_cut : List ℕ → List ℕ → Bool → Option (List ℕ) → List ℕ → Reading Apache
 on_cut flags side is_shut name tail = cond (not (are_flags flags)) (Failed BadFlags) (cond is_shut (Failed Unclosed) (on_letter flags side name tail))
 
-pub cut_by : (text : List ℕ) → on_directive text ≡ on_cut (flags_of text) (side_of (after_flags text)) (is_unclosed (after_side (after_flags text))) (name_of (after_side (after_flags text))) (after_name (after_side (after_flags text)))
+pub cut_by : (text : List ℕ) → on_directive text ≡ on_cut (flags_of text) (side_of (after_flags text)) (is_unclosed 123 125 (after_side (after_flags text))) (name_of (after_side (after_flags text))) (after_name (after_side (after_flags text)))
 cut_by text = refl
 
 pub good_cut : (flags side : List ℕ) (name : Option (List ℕ)) (tail : List ℕ) (f s : List ℕ) (u : Bool) (n : Option (List ℕ)) (t : List ℕ) → f ≡ flags → s ≡ side → u ≡ false → n ≡ name → t ≡ tail → are_flags flags ≡ true → on_cut f s u n t ≡ on_letter flags side name tail
@@ -130,16 +115,13 @@ directive_again state d row after h =
     let s_percent = stops_side (λ b. eqb b 37) d.side (braced d.name ++ d.letter ∷ after) h.side refl refl (stops_named (λ b. eqb b 37) d.name d.letter after refl (other 37 (lettered_no 37 refl))) in
     let fc = flags_again d.flags (d.side ++ (braced d.name ++ d.letter ∷ after)) h.flags s_flag s_bang in
     let sc = side_again d.side (braced d.name ++ d.letter ∷ after) h.side (stops_named is_angle d.name d.letter after refl angle) in
-    let nc = name_again d.name d.letter after h.closed (other 123 (lettered_no 123 refl)) in
+    let nc = part_again 123 125 d.name (d.letter ∷ after) h.closed (other 123 (lettered_no 123 refl)) in
     let text : List ℕ = d.flags ++ (d.side ++ (braced d.name ++ d.letter ∷ after)) in
     let after_is : after_side (after_flags text) ≡ braced d.name ++ d.letter ∷ after = ap after_side fc.back_is ∙ sc.back_is in
     ap on_percent whole ∙ percent_other text (no_percent d.flags (d.side ++ (braced d.name ++ d.letter ∷ after)) h.flags s_percent) ∙ cut_by text
-    ∙ good_cut d.flags d.side d.name (d.letter ∷ after) (flags_of text) (side_of (after_flags text)) (is_unclosed (after_side (after_flags text))) (name_of (after_side (after_flags text))) (after_name (after_side (after_flags text)))
-    fc.front_is (ap side_of fc.back_is ∙ sc.front_is) (ap is_unclosed after_is ∙ nc.shut) (ap name_of after_is ∙ nc.name_is) (ap after_name after_is ∙ nc.tail_is) h.flags
+    ∙ good_cut d.flags d.side d.name (d.letter ∷ after) (flags_of text) (side_of (after_flags text)) (is_unclosed 123 125 (after_side (after_flags text))) (name_of (after_side (after_flags text))) (after_name (after_side (after_flags text)))
+    fc.front_is (ap side_of fc.back_is ∙ sc.front_is) (ap (is_unclosed 123 125) after_is ∙ nc.shut) (ap name_of after_is ∙ nc.part_is) (ap after_name after_is ∙ nc.rest_is) h.flags
     ∙ good_row d after row h.row_is h.taken
-
-at_both : (P : List ℕ → Given → Type 0) (a b : List ℕ) (g h : Given) → a ≡ b → g ≡ h → P b h → P a g
-at_both P a b g h e f p = subst (λ (x : List ℕ). P x g) (sym e) (subst (λ (x : Given). P b x) (sym f) p)
 
 unfoldable pub Again : Apache → List ℕ → List ℕ → Given → Type 0
 Again state after bytes given = (1 ≤ length bytes) × (reading state (bytes ++ after) ≡ found bytes given after)

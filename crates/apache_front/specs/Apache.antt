@@ -1,9 +1,9 @@
 -- Formats as Apache's LogFormat spells them.
 use Rattle.std.specs.Prelude.{ℕ, false, List}
 use Rattle.lf_format.specs.Shape.{Shape}
-use Rattle.lf_format.specs.Spelling as spelling
+use Rattle.lf_spelling.specs.Spelling as spelling
 use Rattle.lf_format.specs.declared.format.LineEnd.TheVariants.{Lf}
-use Rattle.lf_format.specs.declared.fault.Cause.{Cause}
+use Rattle.lf_spelling.specs.declared.fault.Cause.{Cause}
 use Rattle.apache_front.specs.Reading.{item_is, fault_is}
 
 -- The text spells the format.

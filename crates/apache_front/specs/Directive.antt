@@ -1,18 +1,15 @@
 -- A directive: as it is spelled, and as it is taken apart from the left.
-use Rattle.std.specs.Prelude.{◌≡◌, ℕ, ◌==◌, ◌&&◌, ◌||◌, not, nat_le, Bool, true, false, List, [], ◌∷◌, ◌++◌, Option, Some, None, IfSome, if◌then◌else◌}
-use Rattle.std.specs.List.{list_all}
+use Rattle.std.specs.Prelude.{◌≡◌, ℕ, ◌==◌, ◌&&◌, ◌||◌, not, Bool, true, false, List, [], ◌∷◌, ◌++◌, Option, Some, None, if◌then◌else◌}
 use Rattle.lf_format.specs.declared.slot.Absent.{Absent}
 use Rattle.lf_format.specs.declared.slot.Absent.TheVariants.{Dash}
 use Rattle.lf_format.specs.declared.slot.Slot.{Slot}
-use Rattle.lf_format.specs.declared.fault.Cause.{Cause}
-use Rattle.lf_format.specs.declared.fault.Cause.TheVariants.{BadFlags, Unclosed, UnknownName, BadName}
+use Rattle.lf_spelling.specs.declared.fault.Cause.{Cause}
+use Rattle.lf_spelling.specs.declared.fault.Cause.TheVariants.{BadFlags, Unclosed, UnknownName, BadName}
 use Rattle.apache_front.specs.declared.table.Row.{Row}
 use Rattle.apache_front.specs.Table.{row_of, takes, kind_of, code_of}
-use Rattle.lf_format.specs.Runs.{run, past}
-
--- a decimal digit
-abbrev pub is_digit : ℕ → Bool
-is_digit b = nat_le 48 b && nat_le b 57
+use Rattle.lf_spelling.specs.Runs.{run, past}
+use Rattle.lf_spelling.specs.Texts.{is_digit}
+use Rattle.lf_spelling.specs.Enclosed.{HoldsNo, enclosed, is_unclosed, part_of, after_part}
 
 -- a digit or a comma
 abbrev pub is_flag : ℕ → Bool
@@ -39,10 +36,6 @@ is_side [] = true
 is_side (b ∷ []) = is_angle b
 is_side _ = false
 
--- any byte but `}`
-abbrev pub is_inside : ℕ → Bool
-is_inside b = not (b == 125)
-
 -- The parts of a directive, in the order in which they are spelled.
 pub record Directive : Type 0 where
   pub flags : List ℕ
@@ -52,8 +45,7 @@ pub record Directive : Type 0 where
 
 -- a name in braces, or none
 abbrev pub braced : Option (List ℕ) → List ℕ
-braced None = []
-braced (Some name) = 123 ∷ (name ++ 125 ∷ [])
+braced name = enclosed 123 125 name
 
 -- how a directive is spelled: a percent sign and its parts
 abbrev pub spelling : Directive → List ℕ
@@ -63,7 +55,7 @@ spelling d = 37 ∷ (d.flags ++ (d.side ++ (braced d.name ++ d.letter ∷ [])))
 pub record IsDirective (d : Directive) (row : Row) : Type 0 where
   pub flags : are_flags d.flags ≡ true
   pub side : is_side d.side ≡ true
-  pub closed : IfSome d.name (λ name. list_all is_inside name ≡ true)
+  pub closed : HoldsNo 125 d.name
   pub row_is : row_of d.letter ≡ Some row
   pub taken : takes row.names d.name ≡ true
 
@@ -104,28 +96,11 @@ after_side (b ∷ text) = if is_angle b then text else b ∷ text
 
 -- what stands between `{` and the first `}`
 abbrev pub name_of : List ℕ → Option (List ℕ)
-name_of [] = None
-name_of (b ∷ text) = if b == 123 then Some (run is_inside text) else None
-
--- all but the first byte
-abbrev pub without_first : List ℕ → List ℕ
-without_first [] = []
-without_first (b ∷ text) = text
-
--- whether no byte is left
-abbrev pub is_nothing : List ℕ → Bool
-is_nothing [] = true
-is_nothing (b ∷ text) = false
-
--- there is a `{` and no `}` after it
-abbrev pub is_unclosed : List ℕ → Bool
-is_unclosed [] = false
-is_unclosed (b ∷ text) = if b == 123 then is_nothing (past is_inside text) else false
+name_of text = part_of 123 125 text
 
 -- what follows the name and its `}`
 abbrev pub after_name : List ℕ → List ℕ
-after_name [] = []
-after_name (b ∷ text) = if b == 123 then without_first (past is_inside text) else b ∷ text
+after_name text = after_part 123 125 text
 
 -- what is wrong with a name and the row of its letter
 abbrev pub row_cause : Option (List ℕ) → Option Row → Option Cause
@@ -142,5 +117,5 @@ abbrev pub cause_of : List ℕ → Option Cause
 cause_of text =
     let named = after_side (after_flags text) in
     if not (are_flags (flags_of text)) then Some BadFlags else
-    if is_unclosed named then Some Unclosed else
+    if is_unclosed 123 125 named then Some Unclosed else
     letter_cause (name_of named) (after_name named)

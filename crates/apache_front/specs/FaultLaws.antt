@@ -1,13 +1,14 @@
 -- Where no item stands, its cause is read.
 use Rattle.std.proofs.Common.{◌≡◌, ℕ, ◌≤◌, Bool, true, false, cond, not, List, [], ◌∷◌, length, Option, Some, None, refl, sym, ap, subst, ◌∙◌, arith}
-use Rattle.lf_format.specs.Items.{Reading, Failed}
-use Rattle.lf_format.specs.declared.fault.Cause.{Cause}
-use Rattle.lf_format.specs.declared.fault.Cause.TheVariants.{BadFlags, Unclosed, BadName}
-use Rattle.lf_format.specs.declared.front.Given.TheVariants.{Slot}
+use Rattle.lf_spelling.specs.Enclosed.{is_unclosed}
+use Rattle.lf_spelling.specs.Items.{Reading, Failed}
+use Rattle.lf_spelling.specs.declared.fault.Cause.{Cause}
+use Rattle.lf_spelling.specs.declared.fault.Cause.TheVariants.{BadFlags, Unclosed, BadName}
+use Rattle.lf_spelling.specs.declared.front.Given.TheVariants.{Slot}
 use Rattle.apache_front.specs.declared.front.Apache.{Apache}
 use Rattle.apache_front.specs.declared.table.Row.{Row}
 use Rattle.apache_front.specs.Table.{row_of, takes}
-use Rattle.apache_front.specs.Directive.{are_flags, Directive, spelling, slot_of, flags_of, after_flags, side_of, after_side, name_of, is_unclosed, after_name, row_cause, letter_cause, cause_of}
+use Rattle.apache_front.specs.Directive.{are_flags, Directive, spelling, slot_of, flags_of, after_flags, side_of, after_side, name_of, after_name, row_cause, letter_cause, cause_of}
 use Rattle.apache_front.specs.Items.{HasFault, line_feed, spelled_feed, bad_directive}
 use Rattle.apache_front.specs.Reading.{found, on_row, on_letter, on_directive, reading}
 use Rattle.apache_front.specs.AgainLaws.{percent_other}
@@ -40,7 +41,7 @@ cut_says true false read cause h = h
 directive_fails : (text : List ℕ) (cause : Cause) → cause_of text ≡ Some cause → on_directive text ≡ Failed cause
 unfolding said
 directive_fails text cause is =
-    cut_says (are_flags (flags_of text)) (is_unclosed (after_side (after_flags text))) (on_letter (flags_of text) (side_of (after_flags text)) (name_of (after_side (after_flags text))) (after_name (after_side (after_flags text)))) (letter_cause (name_of (after_side (after_flags text))) (after_name (after_side (after_flags text)))) (letter_says (flags_of text) (side_of (after_flags text)) (name_of (after_side (after_flags text))) (after_name (after_side (after_flags text))))
+    cut_says (are_flags (flags_of text)) (is_unclosed 123 125 (after_side (after_flags text))) (on_letter (flags_of text) (side_of (after_flags text)) (name_of (after_side (after_flags text))) (after_name (after_side (after_flags text)))) (letter_cause (name_of (after_side (after_flags text))) (after_name (after_side (after_flags text)))) (letter_says (flags_of text) (side_of (after_flags text)) (name_of (after_side (after_flags text))) (after_name (after_side (after_flags text))))
     ∙ ap (λ (o : Option Cause). said o (on_directive text)) is
 
 pub fails_again : (state : Apache) (text : List ℕ) (cause : Cause) → HasFault text cause → (1 ≤ length text) × (reading state text ≡ Failed cause)

@@ -1,25 +1,26 @@
 -- What is read at the front of a text is so.
 use Rattle.std.proofs.Common.{◌≡◌, ℕ, ◌≤◌, true, false, cond, not, eqb, List, [], ◌∷◌, ◌++◌, length, Option, Some, None, refl, sym, ap, subst, ◌∙◌, append_assoc, arith}
-use Rattle.std.specs.Prelude.{IfSome}
-use Rattle.std.specs.List.{list_all}
 use Rattle.std.proofs.lemmas.Bool.{eqb-true, cond_both, not-false}
-use Rattle.lf_format.specs.Items.{Reading, Found, Failed}
-use Rattle.lf_format.specs.declared.fault.Cause.TheVariants.{LineBreak, BadFlags, Unclosed, BadName}
-use Rattle.lf_format.specs.declared.front.Given.TheVariants.{Byte, Slot}
+use Rattle.lf_spelling.specs.Texts.{begins_with}
+use Rattle.lf_spelling.specs.Enclosed.{HoldsNo, is_unclosed}
+use Rattle.lf_spelling.specs.EnclosedLaws.{enclosed_parts}
+use Rattle.lf_spelling.specs.Items.{Reading, Found, Failed}
+use Rattle.lf_spelling.specs.declared.fault.Cause.TheVariants.{LineBreak, BadFlags, Unclosed, BadName}
+use Rattle.lf_spelling.specs.declared.front.Given.TheVariants.{Byte, Slot}
 use Rattle.apache_front.specs.declared.front.Apache.{Apache}
 use Rattle.apache_front.specs.declared.table.Row.{Row}
 use Rattle.apache_front.specs.Table.{row_of, takes}
-use Rattle.apache_front.specs.Directive.{are_flags, is_angle, is_side, is_inside, Directive, braced, spelling, slot_of, flags_of, after_flags, side_of, after_side, name_of, is_unclosed, after_name, row_cause, letter_cause, cause_of}
-use Rattle.apache_front.specs.Items.{escaped, begins_with, IsItem, plain, escape, backslash, percent, directive, HasFault, line_feed, spelled_feed, bad_directive}
+use Rattle.apache_front.specs.Directive.{are_flags, is_angle, is_side, Directive, braced, spelling, slot_of, flags_of, after_flags, side_of, after_side, name_of, after_name, row_cause, letter_cause, cause_of}
+use Rattle.apache_front.specs.Items.{escaped, IsItem, plain, escape, backslash, percent, directive, HasFault, line_feed, spelled_feed, bad_directive}
 use Rattle.apache_front.specs.Reading.{found, on_row, on_letter, on_directive, on_percent, on_escape, on_backslash, reading}
-use Rattle.apache_front.specs.Parts.{flags_join, side_join, named}
+use Rattle.apache_front.specs.Parts.{flags_join, side_join}
 
 -- the reading says what is so of the text
 unfoldable pub Fine : List ℕ → Reading Apache → Type 0
 Fine text (Found item after) = (text ≡ item.bytes ++ after) × IsItem item.bytes item.given after
 Fine text (Failed cause) = HasFault text cause
 
-fine_row : (text : List ℕ) (d : Directive) (after : List ℕ) (row : Option Row) → text ≡ d.flags ++ (d.side ++ (braced d.name ++ d.letter ∷ after)) → are_flags d.flags ≡ true → is_side d.side ≡ true → IfSome d.name (λ n. list_all is_inside n ≡ true)
+fine_row : (text : List ℕ) (d : Directive) (after : List ℕ) (row : Option Row) → text ≡ d.flags ++ (d.side ++ (braced d.name ++ d.letter ∷ after)) → are_flags d.flags ≡ true → is_side d.side ≡ true → HoldsNo 125 d.name
     → row_of d.letter ≡ row → begins_with 37 text ≡ false → cause_of text ≡ row_cause d.name row → Fine (37 ∷ text) (on_row d after row)
 unfolding Fine
 fine_row text d after None parts flags side closed is other cause = bad_directive text refl other cause
@@ -30,7 +31,7 @@ fine_row text d after (Some row) parts flags side closed is other cause =
     (ap (λ (t : List ℕ). 37 ∷ t) (parts ∙ whole), directive d row (record { flags = flags; side = side; closed = closed; row_is = is; taken = e }) refl refl))
     (λ e. bad_directive text refl other (cause ∙ ap (λ v. cond v None (Some BadName)) e))
 
-fine_letter : (text flags side : List ℕ) (name : Option (List ℕ)) (tail : List ℕ) → text ≡ flags ++ (side ++ (braced name ++ tail)) → are_flags flags ≡ true → is_side side ≡ true → IfSome name (λ n. list_all is_inside n ≡ true)
+fine_letter : (text flags side : List ℕ) (name : Option (List ℕ)) (tail : List ℕ) → text ≡ flags ++ (side ++ (braced name ++ tail)) → are_flags flags ≡ true → is_side side ≡ true → HoldsNo 125 name
     → begins_with 37 text ≡ false → cause_of text ≡ letter_cause name tail → Fine (37 ∷ text) (on_letter flags side name tail)
 unfolding Fine
 fine_letter text flags side name [] parts good is_good closed other cause = bad_directive text refl other cause
@@ -46,16 +47,16 @@ unfolding Fine
 fine_directive text other =
     let sided : List ℕ = after_flags text in
     let nameds : List ℕ = after_side sided in
-    cond_both (not (are_flags (flags_of text))) (Failed BadFlags) (cond (is_unclosed (after_side (after_flags text))) (Failed Unclosed) (on_letter (flags_of text) (side_of (after_flags text)) (name_of (after_side (after_flags text))) (after_name (after_side (after_flags text))))) (Fine (37 ∷ text))
-    (λ e. bad_directive text refl other (ap (λ v. cond v (Some BadFlags) (cond (is_unclosed (after_side (after_flags text))) (Some Unclosed) (letter_cause (name_of (after_side (after_flags text))) (after_name (after_side (after_flags text)))))) e))
-    (λ e. cond_both (is_unclosed (after_side (after_flags text))) (Failed Unclosed) (on_letter (flags_of text) (side_of (after_flags text)) (name_of (after_side (after_flags text))) (after_name (after_side (after_flags text)))) (Fine (37 ∷ text))
-    (λ u. bad_directive text refl other (ap (λ v. cond v (Some BadFlags) (cond (is_unclosed (after_side (after_flags text))) (Some Unclosed) (letter_cause (name_of (after_side (after_flags text))) (after_name (after_side (after_flags text)))))) e ∙ ap (λ v. cond v (Some Unclosed) (letter_cause (name_of (after_side (after_flags text))) (after_name (after_side (after_flags text))))) u))
+    cond_both (not (are_flags (flags_of text))) (Failed BadFlags) (cond (is_unclosed 123 125 (after_side (after_flags text))) (Failed Unclosed) (on_letter (flags_of text) (side_of (after_flags text)) (name_of (after_side (after_flags text))) (after_name (after_side (after_flags text))))) (Fine (37 ∷ text))
+    (λ e. bad_directive text refl other (ap (λ v. cond v (Some BadFlags) (cond (is_unclosed 123 125 (after_side (after_flags text))) (Some Unclosed) (letter_cause (name_of (after_side (after_flags text))) (after_name (after_side (after_flags text)))))) e))
+    (λ e. cond_both (is_unclosed 123 125 (after_side (after_flags text))) (Failed Unclosed) (on_letter (flags_of text) (side_of (after_flags text)) (name_of (after_side (after_flags text))) (after_name (after_side (after_flags text)))) (Fine (37 ∷ text))
+    (λ u. bad_directive text refl other (ap (λ v. cond v (Some BadFlags) (cond (is_unclosed 123 125 (after_side (after_flags text))) (Some Unclosed) (letter_cause (name_of (after_side (after_flags text))) (after_name (after_side (after_flags text)))))) e ∙ ap (λ v. cond v (Some Unclosed) (letter_cause (name_of (after_side (after_flags text))) (after_name (after_side (after_flags text))))) u))
     (λ u.
-    let n = named (after_side (after_flags text)) u in
+    let n = enclosed_parts 123 125 (after_side (after_flags text)) u in
     let parts : text ≡ flags_of text ++ (side_of (after_flags text) ++ (braced (name_of (after_side (after_flags text))) ++ after_name (after_side (after_flags text)))) =
     sym (flags_join text) ∙ ap (λ (t : List ℕ). flags_of text ++ t) (sym (side_join (after_flags text)) ∙ ap (λ (t : List ℕ). side_of (after_flags text) ++ t) n.parts) in
     fine_letter text (flags_of text) (side_of (after_flags text)) (name_of (after_side (after_flags text))) (after_name (after_side (after_flags text))) parts (not-false _ e) (side_is (after_flags text)) n.closed other
-    (ap (λ v. cond v (Some BadFlags) (cond (is_unclosed (after_side (after_flags text))) (Some Unclosed) (letter_cause (name_of (after_side (after_flags text))) (after_name (after_side (after_flags text)))))) e ∙ ap (λ v. cond v (Some Unclosed) (letter_cause (name_of (after_side (after_flags text))) (after_name (after_side (after_flags text))))) u)))
+    (ap (λ v. cond v (Some BadFlags) (cond (is_unclosed 123 125 (after_side (after_flags text))) (Some Unclosed) (letter_cause (name_of (after_side (after_flags text))) (after_name (after_side (after_flags text)))))) e ∙ ap (λ v. cond v (Some Unclosed) (letter_cause (name_of (after_side (after_flags text))) (after_name (after_side (after_flags text))))) u)))
 
 fine_percent : (text : List ℕ) → Fine (37 ∷ text) (on_percent text)
 unfolding Fine

@@ -1,20 +1,16 @@
 -- What stands in a text, and what is wrong where nothing does.
 use Rattle.std.specs.Prelude.{◌≡◌, ℕ, ◌==◌, ◌&&◌, ◌||◌, not, Bool, true, false, List, [], ◌∷◌, Option, Some, None, is_some, if◌then◌else◌}
-use Rattle.lf_format.specs.declared.fault.Cause.{Cause}
-use Rattle.lf_format.specs.declared.fault.Cause.TheVariants.{LineBreak}
-use Rattle.lf_format.specs.declared.front.Given.{Given}
-use Rattle.lf_format.specs.declared.front.Given.TheVariants.{Byte, Slot}
+use Rattle.lf_spelling.specs.Texts.{begins_with}
+use Rattle.lf_spelling.specs.declared.fault.Cause.{Cause}
+use Rattle.lf_spelling.specs.declared.fault.Cause.TheVariants.{LineBreak}
+use Rattle.lf_spelling.specs.declared.front.Given.{Given}
+use Rattle.lf_spelling.specs.declared.front.Given.TheVariants.{Byte, Slot}
 use Rattle.apache_front.specs.declared.table.Row.{Row}
 use Rattle.apache_front.specs.Directive.{Directive, IsDirective, spelling, slot_of, cause_of}
 
 -- what a backslash and this byte give
 abbrev pub escaped : ℕ → Option ℕ
 escaped c = if c == 34 then Some 34 else if c == 92 then Some 92 else if c == 116 then Some 9 else None
-
--- whether the first byte is this one
-abbrev pub begins_with : ℕ → List ℕ → Bool
-begins_with c [] = false
-begins_with c (b ∷ text) = b == c
 
 -- whether these bytes make an escape after a backslash
 abbrev pub begins_escape : List ℕ → Bool

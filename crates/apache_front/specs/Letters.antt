@@ -1,10 +1,12 @@
 -- The letters of the table are letters of ASCII.
 use Rattle.std.proofs.Common.{◌≡◌, ℕ, ◌≤◌, ◌<◌, Bool, true, false, cond, ◌&&◌, eqb, leb, List, [], ◌∷◌, Some, refl, sym, ap, ◌∙◌, arith, inl, inr}
 use Rattle.std.specs.List.{list_all, list_any}
-use Rattle.std.proofs.lemmas.Bool.{eqb-true, leb-true, cases_Bool, and_parts, or_cases, ne_eqb}
+use Rattle.std.proofs.lemmas.Bool.{eqb-true, leb-true, cases_Bool, and_parts, or_cases}
 use Rattle.apache_front.specs.declared.table.Row.{Row}
 use Rattle.apache_front.specs.Table.{Entry, table, row_in, row_of}
-use Rattle.apache_front.specs.Directive.{is_digit, is_flag}
+use Rattle.lf_spelling.specs.Texts.{is_digit}
+use Rattle.lf_spelling.specs.RunLaws.{apart}
+use Rattle.apache_front.specs.Directive.{is_flag}
 
 -- the letters of the table are between `A` and `z`
 unfoldable pub is_lettered : ℕ → Bool
@@ -36,9 +38,6 @@ table_lettered letter row is = row_lettered table letter row refl is
 pub letter_low : (letter : ℕ) (row : Row) → row_of letter ≡ Some row → letter < 128
 unfolding is_lettered
 letter_low letter row is = let high : letter ≤ 122 = leb-true letter 122 (and_parts (leb 65 letter) (leb letter 122) (table_lettered letter row is)).1 in omega arith
-
-pub apart : (p : ℕ → Bool) (a b : ℕ) → p a ≡ true → p b ≡ false → eqb a b ≡ false
-apart p a b hyes hno = ne_eqb a b (λ e. let same : true ≡ false = sym hyes ∙ ap p e ∙ hno in absurd cc)
 
 not_digit : (b : ℕ) → is_lettered b ≡ true → is_digit b ≡ false
 unfolding is_lettered

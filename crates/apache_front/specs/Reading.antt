@@ -1,19 +1,20 @@
 -- What a reader finds at the front of a text.
 use Rattle.std.specs.Prelude.{◌≡◌, ℕ, ◌+◌, ◌-◌, ◌==◌, not, Bool, true, length, take, Result, Ok, Err, List, [], ◌∷◌, Option, Some, None, if◌then◌else◌}
-use Rattle.lf_format.specs.Items.{Item, Reading, Found, Failed}
-use Rattle.lf_format.specs.declared.fault.Cause.TheVariants.{LineBreak, EmptyFormat, BadFlags, Unclosed, UnknownName, BadName}
-use Rattle.lf_format.specs.Fronts.{GivesItem}
-use Rattle.lf_format.specs.declared.front.Taken.{Taken}
-use Rattle.lf_format.specs.declared.fault.Cause.{Cause}
-use Rattle.lf_format.specs.declared.fault.ItemFault.{ItemFault}
-use Rattle.lf_format.specs.declared.fault.ItemFault.TheVariants as fault
+use Rattle.lf_spelling.specs.Items.{Item, Reading, Found, Failed}
+use Rattle.lf_spelling.specs.declared.fault.Cause.TheVariants.{LineBreak, EmptyFormat, BadFlags, Unclosed, UnknownName, BadName}
+use Rattle.lf_spelling.specs.Fronts.{GivesItem}
+use Rattle.lf_spelling.specs.Enclosed.{is_unclosed}
+use Rattle.lf_spelling.specs.declared.front.Taken.{Taken}
+use Rattle.lf_spelling.specs.declared.fault.Cause.{Cause}
+use Rattle.lf_spelling.specs.declared.fault.ItemFault.{ItemFault}
+use Rattle.lf_spelling.specs.declared.fault.ItemFault.TheVariants as fault
 use Rattle.lf_format.specs.declared.slot.Absent.TheVariants.{Dash}
-use Rattle.lf_format.specs.declared.front.Given.{Given}
-use Rattle.lf_format.specs.declared.front.Given.TheVariants.{Byte, Slot}
+use Rattle.lf_spelling.specs.declared.front.Given.{Given}
+use Rattle.lf_spelling.specs.declared.front.Given.TheVariants.{Byte, Slot}
 use Rattle.apache_front.specs.declared.front.Apache.{Apache}
 use Rattle.apache_front.specs.declared.table.Row.{Row}
 use Rattle.apache_front.specs.Table.{row_of, takes}
-use Rattle.apache_front.specs.Directive.{Directive, spelling, slot_of, row_slot, letter_cause, are_flags, flags_of, after_flags, side_of, after_side, name_of, is_unclosed, after_name}
+use Rattle.apache_front.specs.Directive.{Directive, spelling, slot_of, row_slot, letter_cause, are_flags, flags_of, after_flags, side_of, after_side, name_of, after_name}
 use Rattle.apache_front.specs.Items.{escaped, IsItem, HasFault}
 
 -- an item that leaves the only state
@@ -36,7 +37,7 @@ on_directive text =
     let sided = after_flags text in
     let named = after_side sided in
     if not (are_flags (flags_of text)) then Failed BadFlags else
-    if is_unclosed named then Failed Unclosed else
+    if is_unclosed 123 125 named then Failed Unclosed else
     on_letter (flags_of text) (side_of sided) (name_of named) (after_name named)
 
 -- by what follows a percent sign

@@ -6,11 +6,12 @@ use Rattle.std.specs.Str.{bytes_eq}
 use Rattle.lf_core.specs.declared.class.TheConstants.Class as classes
 use Rattle.lf_format.specs.declared.kind.Kind.{Kind}
 use Rattle.lf_format.specs.declared.kind.Kind.TheVariants as kind
-use Rattle.lf_format.specs.declared.kind.Coding.{Coding}
-use Rattle.lf_format.specs.declared.kind.Coding.TheVariants.{Raw, ApacheHex}
+use Rattle.lf_escape.specs.declared.coding.Coding.{Coding}
+use Rattle.lf_escape.specs.declared.coding.Coding.TheVariants.{Raw, ApacheHex}
 use Rattle.lf_format.specs.declared.slot.Absent.{Absent}
 use Rattle.lf_format.specs.declared.slot.Absent.TheVariants.{No, Dash}
 use Rattle.lf_format.specs.CommonKinds.{zero_fits, one_fits, texts, numbers, dashed}
+use Rattle.lf_spelling.specs.Numbers.{greatest}
 use Rattle.apache_front.specs.declared.table.Names.{Names}
 use Rattle.apache_front.specs.declared.table.Names.TheVariants.{Never, Always, Client, Port, Process, Unit as UnitName}
 use Rattle.apache_front.specs.declared.table.Sort.{Sort}
@@ -53,10 +54,6 @@ row_in (entry ∷ entries) letter = if list_any (λ l. letter == l) entry.letter
 -- the row of a letter
 abbrev pub row_of : ℕ → Option Row
 row_of letter = row_in table letter
-
--- the greatest number of 63 bits
-abbrev pub greatest : ℕ
-greatest = 9223372036854775807
 
 -- the kind that a sort of values is
 abbrev pub kind_of : Sort → Kind

@@ -1,17 +1,19 @@
 //! What begins with a backslash or a percent sign, taken apart from the left.
 
-ghost use Rattle.std.specs.Prelude.{◌++◌, ◌≡◌, ◌≤◌, ℕ, ◌∷◌, length, List, IfOk};
+ghost use Rattle.std.specs.Prelude.{◌++◌, ◌≡◌, ℕ, ◌∷◌, length, List, IfOk};
 ghost use Rattle.std.specs.List.{prefix_len};
 ghost use Rattle.std.specs.Option.{option_copied};
 ghost use Rattle.std.specs.Str.{IsUtf8};
-ghost use Rattle.lf_format.specs.Cuts.{EndsText};
-ghost use Rattle.apache_front.specs.Directive.{is_digit, is_flag, is_inside, is_status_list, are_flags, flags_of, side_of, row_slot};
+ghost use Rattle.lf_spelling.specs.Cuts.{EndsText};
+ghost use Rattle.lf_spelling.specs.Texts.{is_digit};
+ghost use Rattle.apache_front.specs.Directive.{is_flag, is_status_list, are_flags, flags_of, side_of, row_slot};
 ghost use Rattle.apache_front.specs.Table.{code_of};
 ghost use Rattle.apache_front.specs.Reading.{on_backslash, on_percent, on_directive, Gives, GivesLetter};
 
 use crate::table::{Row, can_take, find_row, kind_of};
-use lf_core::{OutOfMemory, Str};
-use lf_format::{Absent, Cause, Coding, Given, ItemFault, Kind, Slot, Taken};
+use lf_core::OutOfMemory;
+use lf_format::{Absent, Coding, Kind, Slot};
+use lf_spelling::{Cause, Given, ItemFault, Taken, cut_part, spelled};
 use std::alloc::Global;
 
 /// What follows a backslash.
@@ -61,7 +63,7 @@ pub fn percent(alloc: Global, after: &[u8]) -> Result<Taken, ItemFault>
 fn is_flag_byte(b: u8) -> bool
     ensures { result ≡ is_flag b }
 {
-    (48 <= b && b <= 57) || b == b','
+    is_digit_byte(b) || b == b','
 }
 
 fn is_digit_byte(b: u8) -> bool
@@ -73,23 +75,7 @@ fn is_digit_byte(b: u8) -> bool
 fn flag_run(text: &[u8]) -> usize
     ensures { result ≡ prefix_len is_flag text.now }
 {
-    for (i, b) in text.iter().enumerate() {
-        if !is_flag_byte(*b) {
-            return i;
-        }
-    }
-    text.len()
-}
-
-fn name_run(text: &[u8]) -> usize
-    ensures { result ≡ prefix_len is_inside text.now }
-{
-    for (i, b) in text.iter().enumerate() {
-        if *b == b'}' {
-            return i;
-        }
-    }
-    text.len()
+    text.iter().take_while(|b| is_flag_byte(**b)).count()
 }
 
 /// The length of the flags.
@@ -159,25 +145,12 @@ fn code(kind: &Kind) -> Coding
     }
 }
 
-/// A percent sign and the front of the text.
-fn spelled(alloc: Global, front: &[u8]) -> Result<Str, OutOfMemory>
-    requires { IsUtf8 (37 ∷ front.now) }
-    ensures { IfOk result (λ name. name ≡ 37 ∷ front.now) }
-{
-    let Ok(rest) = str::from_utf8(front) else {
-        unreachable!()
-    };
-    let mut name = String::from_str(alloc, "%")?;
-    name.push_str(rest)?;
-    Str::of(alloc, name.as_str())
-}
-
 /// The slot of a row, named by a percent sign and the front of the text.
 fn slot(alloc: Global, front: &[u8], row: Row, absent: Absent) -> Result<Slot, OutOfMemory>
-    requires { IsUtf8 (37 ∷ front.now) }
+    requires { IsUtf8 front.now }
     ensures { IfOk result (λ slot. slot ≡ row_slot (37 ∷ front.now) row absent) }
 {
-    let name = spelled(alloc, front)?;
+    let name = spelled(alloc, "%", front)?;
     let kind = kind_of(alloc, row.sort)?;
     let code = code(&kind);
     Ok(Slot {
@@ -198,7 +171,6 @@ fn letter(
     name: Option<&[u8]>,
     tail: &[u8],
 ) -> Result<Taken, ItemFault>
-    requires short { length tail.now ≤ length text.now }
     requires last { (front : List ℕ) × (text.now ≡ front ++ tail.now) }
     requires text { EndsText (37 ∷ text.now) }
     ensures { GivesLetter text.now has_flags (option_copied name.entry) tail.now result }
@@ -232,15 +204,8 @@ fn directive(alloc: Global, text: &[u8]) -> Result<Taken, ItemFault>
     }
     let has_flags = !flags.is_empty();
     let named = sided.split_at(side_len(sided)).1;
-    let Some((first, inside)) = named.split_first() else {
+    let Some(cut) = cut_part(named, b'{', b'}') else {
         return Err(ItemFault::Fault(Cause::Unclosed));
     };
-    if *first != b'{' {
-        return letter(alloc, text, has_flags, None, named);
-    }
-    let (name, closed) = inside.split_at(name_run(inside));
-    let Some((_brace, tail)) = closed.split_first() else {
-        return Err(ItemFault::Fault(Cause::Unclosed));
-    };
-    letter(alloc, text, has_flags, Some(name), tail)
+    letter(alloc, text, has_flags, cut.part, cut.rest)
 }

@@ -6,6 +6,3 @@ mod front;
 mod table;
 
 pub use front::{one_answer, parse};
-
-#[cfg(test)]
-mod tests;

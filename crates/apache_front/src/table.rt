@@ -112,16 +112,14 @@ fn is_name(names: Names, name: &[u8]) -> bool
     match names {
         Names::Never => false,
         Names::Always => true,
-        Names::Client => name == b"c".as_slice(),
+        Names::Client => matches!(name, b"c"),
         Names::Port => {
             name == b"canonical".as_slice()
                 || name == b"local".as_slice()
                 || name == b"remote".as_slice()
         }
-        Names::Process => name == b"pid".as_slice() || name == b"tid".as_slice(),
-        Names::Unit => {
-            name == b"s".as_slice() || name == b"ms".as_slice() || name == b"us".as_slice()
-        }
+        Names::Process => matches!(name, b"pid" | b"tid"),
+        Names::Unit => matches!(name, b"s" | b"ms" | b"us"),
     }
 }
 

@@ -1,46 +1,36 @@
 -- What stands at the front of a text is read there.
-use Rattle.std.proofs.Common.{◌≡◌, ℕ, ◌≤◌, Bool, true, false, cond, not, eqb, List, [], ◌∷◌, ◌++◌, length, Option, Some, None, refl, sym, ap, subst, ◌∙◌, append_assoc, arith}
+use Rattle.std.proofs.Common.{◌≡◌, ℕ, ◌≤◌, Bool, true, false, cond, not, eqb, List, [], ◌∷◌, ◌++◌, length, Option, Some, None, refl, sym, ap, ◌∙◌, append_assoc, arith}
 use Rattle.std.specs.Prelude.{IfSome}
 use Rattle.std.specs.List.{list_all}
 use Rattle.std.proofs.lemmas.Bool.{and_parts, not-true, ne_eqb}
-use Rattle.lf_format.specs.Runs.{run, past}
-use Rattle.lf_format.proofs.RunCuts.{stops, run_again}
-use Rattle.lf_format.specs.Items.{Failed}
-use Rattle.lf_format.specs.declared.fault.Cause.TheVariants.{LineBreak}
-use Rattle.lf_format.specs.declared.front.Given.{Given}
-use Rattle.lf_format.specs.declared.front.Given.TheVariants.{Byte, Slot}
+use Rattle.lf_spelling.specs.Runs.{stops}
+use Rattle.lf_spelling.specs.RunLaws.{run_again}
+use Rattle.lf_spelling.specs.Texts.{is_digit, begins_with, without_first}
+use Rattle.lf_spelling.specs.Enclosed.{enclosed, is_unclosed}
+use Rattle.lf_spelling.specs.EnclosedLaws.{part_again}
+use Rattle.lf_spelling.specs.ItemLaws.{at_both}
+use Rattle.lf_spelling.specs.Items.{Failed}
+use Rattle.lf_spelling.specs.declared.fault.Cause.TheVariants.{LineBreak}
+use Rattle.lf_spelling.specs.declared.front.Given.{Given}
+use Rattle.lf_spelling.specs.declared.front.Given.TheVariants.{Byte, Slot}
 use Rattle.envoy_front.specs.declared.front.Envoy.{Envoy}
 use Rattle.envoy_front.specs.declared.table.Sort.{Sort}
-use Rattle.envoy_front.specs.Length.{is_digit}
-use Rattle.envoy_front.specs.Table.{begins_with, is_nothing, sort_of, takes, takes_length}
-use Rattle.envoy_front.specs.Command.{is_upper, is_inside, Command, enclosed, counted, spelling, IsCommand, slot_of, without_first, name_of, after_name, is_unclosed, argument_of, after_argument, length_of, after_length, tail_cause}
+use Rattle.envoy_front.specs.Table.{sort_of, takes, takes_length}
+use Rattle.envoy_front.specs.Command.{is_upper, Command, counted, spelling, IsCommand, slot_of, name_of, after_name, argument_of, after_argument, length_of, after_length, tail_cause}
 use Rattle.envoy_front.specs.Items.{is_plain, IsItem, plain, percent, command}
 use Rattle.envoy_front.specs.Reading.{found, command_in, after_command, unless, on_sort, on_command, on_percent, reading}
 use Rattle.envoy_front.specs.Parts.{four_tests}
 
 -- no byte that can follow the name passes the test
-stops_name : (p : ℕ → Bool) (argument counts : Option (List ℕ)) (after : List ℕ) → p 40 ≡ false → p 58 ≡ false → p 37 ≡ false → stops p (enclosed argument ++ (counted counts ++ 37 ∷ after)) ≡ true
+stops_name : (p : ℕ → Bool) (argument counts : Option (List ℕ)) (after : List ℕ) → p 40 ≡ false → p 58 ≡ false → p 37 ≡ false → stops p (enclosed 40 41 argument ++ (counted counts ++ 37 ∷ after)) ≡ true
 stops_name p (Some a) counts after paren colon sign = ap not paren
 stops_name p None (Some d) after paren colon sign = ap not colon
 stops_name p None None after paren colon sign = ap not sign
 
-record ArgumentCut (tail : List ℕ) (argument : Option (List ℕ)) (rest : List ℕ) : Type 0 where
-  argument_is : argument_of tail ≡ argument
-  rest_is : after_argument tail ≡ rest
-  shut : is_unclosed tail ≡ false
-
-argument_again : (argument counts : Option (List ℕ)) (after : List ℕ) → IfSome argument (λ a. list_all is_inside a ≡ true) → ArgumentCut (enclosed argument ++ (counted counts ++ 37 ∷ after)) argument (counted counts ++ 37 ∷ after)
-argument_again None None after closed = record { argument_is = refl; rest_is = refl; shut = refl }
-argument_again None (Some d) after closed = record { argument_is = refl; rest_is = refl; shut = refl }
-argument_again (Some a) counts after closed =
-    let rest : List ℕ = counted counts ++ 37 ∷ after in
-    let more = run_again is_inside a (41 ∷ (counted counts ++ 37 ∷ after)) closed refl in
-    let parts : (a ++ 41 ∷ []) ++ (counted counts ++ 37 ∷ after) ≡ a ++ 41 ∷ (counted counts ++ 37 ∷ after) = append_assoc a (41 ∷ []) (counted counts ++ 37 ∷ after) in
-    record {
-      argument_is = ap (λ (t : List ℕ). Some (run is_inside t)) parts ∙ ap (λ (t : List ℕ). Some t) more.front_is;
-      rest_is = ap (λ (t : List ℕ). without_first (past is_inside t)) parts ∙ ap without_first more.back_is;
-      shut = ap (λ (t : List ℕ). is_nothing (past is_inside t)) parts ∙ ap is_nothing more.back_is;
-    }
+-- no parenthesis follows the argument
+no_argument : (counts : Option (List ℕ)) (after : List ℕ) → begins_with 40 (counted counts ++ 37 ∷ after) ≡ false
+no_argument None after = refl
+no_argument (Some d) after = refl
 
 record LengthCut (rest : List ℕ) (counts : Option (List ℕ)) (end : List ℕ) : Type 0 where
   length_is : length_of rest ≡ counts
@@ -72,43 +62,40 @@ pub record IsTaken (text : List ℕ) (c : Command) (after : List ℕ) : Type 0 w
   pub argument_is : argument_of (after_name text) ≡ c.argument
   pub length_is : length_of (after_argument (after_name text)) ≡ c.length
   pub end_is : after_length (after_argument (after_name text)) ≡ 37 ∷ after
-  pub shut : is_unclosed (after_name text) ≡ false
+  pub shut : is_unclosed 40 41 (after_name text) ≡ false
 
-taken_again : (c : Command) (sort : Sort) (after : List ℕ) → IsCommand c sort → IsTaken (c.name ++ (enclosed c.argument ++ (counted c.length ++ 37 ∷ after))) c after
+taken_again : (c : Command) (sort : Sort) (after : List ℕ) → IsCommand c sort → IsTaken (c.name ++ (enclosed 40 41 c.argument ++ (counted c.length ++ 37 ∷ after))) c after
 taken_again c sort after h =
-    let text : List ℕ = c.name ++ (enclosed c.argument ++ (counted c.length ++ 37 ∷ after)) in
-    let nc = run_again is_upper c.name (enclosed c.argument ++ (counted c.length ++ 37 ∷ after)) h.named (stops_name is_upper c.argument c.length after refl refl refl) in
-    let ac = argument_again c.argument c.length after h.closed in
+    let text : List ℕ = c.name ++ (enclosed 40 41 c.argument ++ (counted c.length ++ 37 ∷ after)) in
+    let nc = run_again is_upper c.name (enclosed 40 41 c.argument ++ (counted c.length ++ 37 ∷ after)) h.named (stops_name is_upper c.argument c.length after refl refl refl) in
+    let ac = part_again 40 41 c.argument (counted c.length ++ 37 ∷ after) h.closed (no_argument c.length after) in
     let lc = length_again c.length after h.digits in
     let rest_is : after_argument (after_name text) ≡ counted c.length ++ 37 ∷ after = ap after_argument nc.back_is ∙ ac.rest_is in
     record {
       name_is = nc.front_is;
-      argument_is = ap argument_of nc.back_is ∙ ac.argument_is;
+      argument_is = ap argument_of nc.back_is ∙ ac.part_is;
       length_is = ap length_of rest_is ∙ lc.length_is;
       end_is = ap after_length rest_is ∙ lc.end_is;
-      shut = ap is_unclosed nc.back_is ∙ ac.shut;
+      shut = ap (is_unclosed 40 41) nc.back_is ∙ ac.shut;
     }
 
 command_again : (state : Envoy) (c : Command) (sort : Sort) (after : List ℕ) → IsCommand c sort → reading state (spelling c ++ after) ≡ found (spelling c) (Slot (slot_of c sort)) after
 command_again state c sort after h =
-    let text : List ℕ = c.name ++ (enclosed c.argument ++ (counted c.length ++ 37 ∷ after)) in
-    let whole : (c.name ++ (enclosed c.argument ++ (counted c.length ++ 37 ∷ []))) ++ after ≡ c.name ++ (enclosed c.argument ++ (counted c.length ++ 37 ∷ after)) = simp append_assoc in
+    let text : List ℕ = c.name ++ (enclosed 40 41 c.argument ++ (counted c.length ++ 37 ∷ after)) in
+    let whole : (c.name ++ (enclosed 40 41 c.argument ++ (counted c.length ++ 37 ∷ []))) ++ after ≡ c.name ++ (enclosed 40 41 c.argument ++ (counted c.length ++ 37 ∷ after)) = simp append_assoc in
     let cut = taken_again c sort after h in
     let sort_is : sort_of (name_of text) ≡ Some sort = ap sort_of cut.name_is ∙ h.sort_is in
     let none : tail_cause sort (after_name text) ≡ None =
-    four_pass (is_unclosed (after_name text)) (takes sort (argument_of (after_name text))) (takes_length sort (length_of (after_argument (after_name text)))) (begins_with 37 (after_length (after_argument (after_name text))))
+    four_pass (is_unclosed 40 41 (after_name text)) (takes sort (argument_of (after_name text))) (takes_length sort (length_of (after_argument (after_name text)))) (begins_with 37 (after_length (after_argument (after_name text))))
     cut.shut (ap (takes sort) cut.argument_is ∙ h.taken) (ap (takes_length sort) cut.length_is ∙ h.sized) (ap (begins_with 37) cut.end_is) in
     let command_is : command_in text ≡ c =
     ap (λ (n : List ℕ). record (command_in text) { name = n }) cut.name_is ∙ ap (λ (a : Option (List ℕ)). record c { argument = a; length = length_of (after_argument (after_name text)) }) cut.argument_is ∙ ap (λ (l : Option (List ℕ)). record c { length = l }) cut.length_is in
     let after_is : after_command text ≡ after = ap without_first cut.end_is in
-    ap on_percent whole ∙ percent_other text (no_percent c.name sort (enclosed c.argument ++ (counted c.length ++ 37 ∷ after)) h.named h.sort_is)
+    ap on_percent whole ∙ percent_other text (no_percent c.name sort (enclosed 40 41 c.argument ++ (counted c.length ++ 37 ∷ after)) h.named h.sort_is)
     ∙ ap (on_sort text) sort_is
     ∙ ap (λ o. unless o (found (spelling (command_in text)) (Slot (slot_of (command_in text) sort)) (after_command text))) none
     ∙ ap (λ (x : Command). found (spelling x) (Slot (slot_of x sort)) (after_command text)) command_is
     ∙ ap (λ (t : List ℕ). found (spelling c) (Slot (slot_of c sort)) t) after_is
-
-at_both : (P : List ℕ → Given → Type 0) (a b : List ℕ) (g h : Given) → a ≡ b → g ≡ h → P b h → P a g
-at_both P a b g h e f p = subst (λ (x : List ℕ). P x g) (sym e) (subst (λ (x : Given). P b x) (sym f) p)
 
 unfoldable pub Again : Envoy → List ℕ → List ℕ → Given → Type 0
 Again state after bytes given = (1 ≤ length bytes) × (reading state (bytes ++ after) ≡ found bytes given after)

@@ -2,9 +2,9 @@
 use Rattle.std.specs.Prelude.{ℕ, false, List}
 use Rattle.std.specs.Io.BufRead.{strip_last}
 use Rattle.lf_format.specs.Shape.{Shape}
-use Rattle.lf_format.specs.Spelling as spelling
+use Rattle.lf_spelling.specs.Spelling as spelling
 use Rattle.lf_format.specs.declared.format.LineEnd.TheVariants.{Lf}
-use Rattle.lf_format.specs.declared.fault.Cause.{Cause}
+use Rattle.lf_spelling.specs.declared.fault.Cause.{Cause}
 use Rattle.envoy_front.specs.Reading.{item_is, fault_is}
 
 -- the text without the line feed at its very end, if there is one: that one is the line's end

@@ -1,18 +1,21 @@
 -- What is read at the front of a text is so.
 use Rattle.std.proofs.Common.{◌≡◌, ℕ, ◌≤◌, false, cond, eqb, List, [], ◌∷◌, ◌++◌, length, Option, Some, None, refl, sym, ap, subst, ◌∙◌, append_assoc, arith}
 use Rattle.std.proofs.lemmas.Bool.{eqb-true, cond_both}
-use Rattle.lf_format.specs.Items.{Reading, Found, Failed}
-use Rattle.lf_format.proofs.RunCuts.{run_all}
-use Rattle.lf_format.specs.declared.fault.Cause.{Cause}
-use Rattle.lf_format.specs.declared.fault.Cause.TheVariants.{LineBreak}
-use Rattle.lf_format.specs.declared.front.Given.TheVariants.{Byte, Slot}
+use Rattle.lf_spelling.specs.Items.{Reading, Found, Failed}
+use Rattle.lf_spelling.specs.RunLaws.{run_all}
+use Rattle.lf_spelling.specs.Texts.{begins_with}
+use Rattle.lf_spelling.specs.Enclosed.{enclosed}
+use Rattle.lf_spelling.specs.EnclosedLaws.{enclosed_parts}
+use Rattle.lf_spelling.specs.declared.fault.Cause.{Cause}
+use Rattle.lf_spelling.specs.declared.fault.Cause.TheVariants.{LineBreak}
+use Rattle.lf_spelling.specs.declared.front.Given.TheVariants.{Byte, Slot}
 use Rattle.envoy_front.specs.declared.front.Envoy.{Envoy}
 use Rattle.envoy_front.specs.declared.table.Sort.{Sort}
-use Rattle.envoy_front.specs.Table.{begins_with, sort_of}
-use Rattle.envoy_front.specs.Command.{is_upper, enclosed, counted, spelling, slot_of, name_of, after_name, argument_of, after_argument, length_of, tail_cause, sort_cause}
+use Rattle.envoy_front.specs.Table.{sort_of}
+use Rattle.envoy_front.specs.Command.{is_upper, counted, spelling, slot_of, name_of, after_name, argument_of, after_argument, length_of, tail_cause, sort_cause}
 use Rattle.envoy_front.specs.Items.{IsItem, plain, percent, command, HasFault, line_feed, bad_command}
 use Rattle.envoy_front.specs.Reading.{found, command_in, after_command, unless, on_sort, on_command, on_percent, reading}
-use Rattle.envoy_front.specs.Parts.{argument_parts, length_parts, good_tail, text_parts}
+use Rattle.envoy_front.specs.Parts.{length_parts, good_tail, text_parts}
 
 -- the reading says what is so of the text
 unfoldable pub Fine : List ℕ → Reading Envoy → Type 0
@@ -25,10 +28,10 @@ unfolding Fine
 fine_tail text sort (Some cause) other is e = bad_command text refl other (ap (λ o. sort_cause o (after_name text)) is ∙ e)
 fine_tail text sort None other is e =
     let good = good_tail sort (after_name text) e in
-    let whole : name_of text ++ (enclosed (argument_of (after_name text)) ++ (counted (length_of (after_argument (after_name text))) ++ 37 ∷ after_command text))
-    ≡ (name_of text ++ (enclosed (argument_of (after_name text)) ++ (counted (length_of (after_argument (after_name text))) ++ 37 ∷ []))) ++ after_command text = sym (simp append_assoc) in
+    let whole : name_of text ++ (enclosed 40 41 (argument_of (after_name text)) ++ (counted (length_of (after_argument (after_name text))) ++ 37 ∷ after_command text))
+    ≡ (name_of text ++ (enclosed 40 41 (argument_of (after_name text)) ++ (counted (length_of (after_argument (after_name text))) ++ 37 ∷ []))) ++ after_command text = sym (simp append_assoc) in
     let parts : 37 ∷ text ≡ spelling (command_in text) ++ after_command text = ap (λ (t : List ℕ). 37 ∷ t) (text_parts sort text good ∙ whole) in
-    (parts, command (command_in text) sort (record { named = run_all is_upper text; sort_is = is; closed = (argument_parts (after_name text) good.closed).closed; taken = good.taken; digits = (length_parts (after_argument (after_name text))).digits; sized = good.sized }) refl refl)
+    (parts, command (command_in text) sort (record { named = run_all is_upper text; sort_is = is; closed = (enclosed_parts 40 41 (after_name text) good.closed).closed; taken = good.taken; digits = (length_parts (after_argument (after_name text))).digits; sized = good.sized }) refl refl)
 
 fine_sort : (text : List ℕ) (sort : Option Sort) → begins_with 37 text ≡ false → sort_of (name_of text) ≡ sort → Fine (37 ∷ text) (on_sort text sort)
 unfolding Fine

@@ -3,10 +3,6 @@ use Rattle.std.specs.Prelude.{ℕ, ◌+◌, ◌-◌, ◌*◌, ◌^◌, ◌≤◌
 use Rattle.std.proofs.Common.{leb, arith}
 use Rattle.std.proofs.lemmas.Bool.{cond_both, leb-true}
 
--- a decimal digit
-abbrev pub is_digit : ℕ → Bool
-is_digit b = nat_le 48 b && nat_le b 57
-
 -- the number that digits spell: each digit stands for itself times ten for each digit after it
 abbrev pub value_of : List ℕ → ℕ
 value_of [] = 0

@@ -1,39 +1,18 @@
 -- A command is taken apart: the parts together are the text, and each is as it should be.
-use Rattle.std.proofs.Common.{◌≡◌, ℕ, Bool, true, false, cond, not, eqb, List, [], ◌∷◌, ◌++◌, Option, Some, None, refl, sym, ap, subst, ◌∙◌, append_assoc, inl, inr}
+use Rattle.std.proofs.Common.{◌≡◌, ℕ, Bool, true, false, cond, not, eqb, List, [], ◌∷◌, ◌++◌, Option, Some, None, refl, sym, ap, ◌∙◌, inl, inr}
 use Rattle.std.specs.Prelude.{IfSome}
 use Rattle.std.specs.List.{list_all}
-use Rattle.std.proofs.lemmas.Bool.{eqb-true, cases_Bool, not-false}
-use Rattle.lf_format.specs.Runs.{run, past}
-use Rattle.lf_format.proofs.RunCuts.{run_join, run_all, past_stop}
-use Rattle.lf_format.specs.declared.fault.Cause.{Cause}
-use Rattle.lf_format.specs.declared.fault.Cause.TheVariants.{Unclosed, BadName, BadLength}
+use Rattle.std.proofs.lemmas.Bool.{eqb-true, cases_Bool}
+use Rattle.lf_spelling.specs.Runs.{run, past}
+use Rattle.lf_spelling.specs.RunLaws.{run_join, run_all}
+use Rattle.lf_spelling.specs.Texts.{is_digit, begins_with, without_first}
+use Rattle.lf_spelling.specs.Enclosed.{enclosed, is_unclosed}
+use Rattle.lf_spelling.specs.EnclosedLaws.{enclosed_parts}
+use Rattle.lf_spelling.specs.declared.fault.Cause.{Cause}
+use Rattle.lf_spelling.specs.declared.fault.Cause.TheVariants.{Unclosed, BadName, BadLength}
 use Rattle.envoy_front.specs.declared.table.Sort.{Sort}
-use Rattle.envoy_front.specs.Length.{is_digit}
-use Rattle.envoy_front.specs.Table.{begins_with, is_nothing, takes, takes_length}
-use Rattle.envoy_front.specs.Command.{is_upper, is_inside, enclosed, counted, without_first, name_of, after_name, is_unclosed, argument_of, after_argument, length_of, after_length, tail_cause}
-
--- an argument in parentheses, or none
-pub record IsEnclosed (tail : List ℕ) (argument : Option (List ℕ)) (rest : List ℕ) : Type 0 where
-  pub parts : tail ≡ enclosed argument ++ rest
-  pub closed : IfSome argument (λ a. list_all is_inside a ≡ true)
-
-enclosed_here : (text : List ℕ) (rest : List ℕ) → past is_inside text ≡ rest → is_nothing rest ≡ false → IsEnclosed (40 ∷ text) (Some (run is_inside text)) (without_first rest)
-enclosed_here text [] is some = absurd cc
-enclosed_here text (c ∷ more) is some =
-    let end : c ≡ 41 = eqb-true c 41 (not-false (eqb c 41) (past_stop is_inside text c more is)) in
-    let parts : text ≡ run is_inside text ++ 41 ∷ more = sym (run_join is_inside text) ∙ ap (λ (t : List ℕ). run is_inside text ++ t) (is ∙ ap (λ (n : ℕ). n ∷ more) end) in
-    record { parts = ap (λ (t : List ℕ). 40 ∷ t) (parts ∙ sym (append_assoc (run is_inside text) (41 ∷ []) more)); closed = run_all is_inside text }
-
-pub argument_parts : (tail : List ℕ) → is_unclosed tail ≡ false → IsEnclosed tail (argument_of tail) (after_argument tail)
-argument_parts [] h = record { parts = refl; closed = tt }
-argument_parts (b ∷ text) h = elim (cases_Bool (eqb b 40)) [
-  | inl e ↦
-      let one : b ≡ 40 = eqb-true b 40 e in
-      let some : is_nothing (past is_inside text) ≡ false = rw e at h in
-      let here : IsEnclosed (b ∷ text) (Some (run is_inside text)) (without_first (past is_inside text)) = subst (λ (n : ℕ). IsEnclosed (n ∷ text) (Some (run is_inside text)) (without_first (past is_inside text))) (sym one) (enclosed_here text (past is_inside text) refl some) in
-      rw e here
-  | inr e ↦ let here : IsEnclosed (b ∷ text) None (b ∷ text) = record { parts = refl; closed = tt } in rw e here
-]
+use Rattle.envoy_front.specs.Table.{takes, takes_length}
+use Rattle.envoy_front.specs.Command.{is_upper, counted, name_of, after_name, argument_of, after_argument, length_of, after_length, tail_cause}
 
 -- a length after a colon, or none
 pub record IsCounted (rest : List ℕ) (length : Option (List ℕ)) (after : List ℕ) : Type 0 where
@@ -53,7 +32,7 @@ length_parts (b ∷ text) = elim (cases_Bool (eqb b 58)) [
 
 -- Nothing is wrong with what follows the name.
 pub record IsGood (sort : Sort) (tail : List ℕ) : Type 0 where
-  pub closed : is_unclosed tail ≡ false
+  pub closed : is_unclosed 40 41 tail ≡ false
   pub taken : takes sort (argument_of tail) ≡ true
   pub sized : takes_length sort (length_of (after_argument tail)) ≡ true
   pub ended : begins_with 37 (after_length (after_argument tail)) ≡ true
@@ -71,7 +50,7 @@ four_good false true true true h = (refl, refl, refl, refl)
 
 pub good_tail : (sort : Sort) (tail : List ℕ) → tail_cause sort tail ≡ None → IsGood sort tail
 good_tail sort tail h =
-    let four = four_good (is_unclosed tail) (takes sort (argument_of tail)) (takes_length sort (length_of (after_argument tail))) (begins_with 37 (after_length (after_argument tail))) h in
+    let four = four_good (is_unclosed 40 41 tail) (takes sort (argument_of tail)) (takes_length sort (length_of (after_argument tail))) (begins_with 37 (after_length (after_argument tail))) h in
     record { closed = four.0; taken = four.1; sized = four.2; ended = four.3 }
 
 begun : (text : List ℕ) → begins_with 37 text ≡ true → text ≡ 37 ∷ without_first text
@@ -80,14 +59,11 @@ begun (b ∷ text) h = ap (λ (n : ℕ). n ∷ text) (eqb-true b 37 h)
 
 -- The text is the name, the argument, the length, a percent sign and what follows.
 pub text_parts : (sort : Sort) (text : List ℕ) → IsGood sort (after_name text)
-    → text ≡ name_of text ++ (enclosed (argument_of (after_name text)) ++ (counted (length_of (after_argument (after_name text))) ++ 37 ∷ without_first (after_length (after_argument (after_name text)))))
+    → text ≡ name_of text ++ (enclosed 40 41 (argument_of (after_name text)) ++ (counted (length_of (after_argument (after_name text))) ++ 37 ∷ without_first (after_length (after_argument (after_name text)))))
 text_parts sort text good =
     let tail : List ℕ = after_name text in
     let rest : List ℕ = after_argument (after_name text) in
     let end = begun (after_length (after_argument (after_name text))) good.ended in
     let whole : after_argument (after_name text) ≡ counted (length_of (after_argument (after_name text))) ++ 37 ∷ without_first (after_length (after_argument (after_name text))) =
     (length_parts (after_argument (after_name text))).parts ∙ ap (λ (t : List ℕ). counted (length_of (after_argument (after_name text))) ++ t) end in
-    sym (run_join is_upper text) ∙ ap (λ (t : List ℕ). run is_upper text ++ t) ((argument_parts (after_name text) good.closed).parts ∙ ap (λ (t : List ℕ). enclosed (argument_of (after_name text)) ++ t) whole)
-
-pub text_ends : (sort : Sort) (text : List ℕ) → IsGood sort (after_name text) → after_length (after_argument (after_name text)) ≡ 37 ∷ without_first (after_length (after_argument (after_name text)))
-text_ends sort text good = begun (after_length (after_argument (after_name text))) good.ended
+    sym (run_join is_upper text) ∙ ap (λ (t : List ℕ). run is_upper text ++ t) ((enclosed_parts 40 41 (after_name text) good.closed).parts ∙ ap (λ (t : List ℕ). enclosed 40 41 (argument_of (after_name text)) ++ t) whole)

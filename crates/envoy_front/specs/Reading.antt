@@ -1,17 +1,18 @@
 -- What a reader finds at the front of a text.
 use Rattle.std.specs.Prelude.{ℕ, ◌==◌, Result, List, [], ◌∷◌, Option, Some, None, if◌then◌else◌}
-use Rattle.lf_format.specs.Items.{Item, Reading, Found, Failed}
-use Rattle.lf_format.specs.Fronts.{GivesItem}
-use Rattle.lf_format.specs.declared.fault.Cause.{Cause}
-use Rattle.lf_format.specs.declared.fault.Cause.TheVariants.{LineBreak, EmptyFormat, UnknownName}
-use Rattle.lf_format.specs.declared.fault.ItemFault.{ItemFault}
-use Rattle.lf_format.specs.declared.front.Taken.{Taken}
-use Rattle.lf_format.specs.declared.front.Given.{Given}
-use Rattle.lf_format.specs.declared.front.Given.TheVariants.{Byte, Slot}
+use Rattle.lf_spelling.specs.Items.{Item, Reading, Found, Failed}
+use Rattle.lf_spelling.specs.Fronts.{GivesItem}
+use Rattle.lf_spelling.specs.Texts.{without_first}
+use Rattle.lf_spelling.specs.declared.fault.Cause.{Cause}
+use Rattle.lf_spelling.specs.declared.fault.Cause.TheVariants.{LineBreak, EmptyFormat, UnknownName}
+use Rattle.lf_spelling.specs.declared.fault.ItemFault.{ItemFault}
+use Rattle.lf_spelling.specs.declared.front.Taken.{Taken}
+use Rattle.lf_spelling.specs.declared.front.Given.{Given}
+use Rattle.lf_spelling.specs.declared.front.Given.TheVariants.{Byte, Slot}
 use Rattle.envoy_front.specs.declared.front.Envoy.{Envoy}
 use Rattle.envoy_front.specs.declared.table.Sort.{Sort}
 use Rattle.envoy_front.specs.Table.{sort_of}
-use Rattle.envoy_front.specs.Command.{Command, spelling, slot_of, without_first, name_of, after_name, argument_of, after_argument, length_of, after_length, tail_cause}
+use Rattle.envoy_front.specs.Command.{Command, spelling, slot_of, name_of, after_name, argument_of, after_argument, length_of, after_length, tail_cause}
 use Rattle.envoy_front.specs.Items.{IsItem, HasFault}
 
 -- an item that leaves the only state

@@ -9,20 +9,13 @@ use Rattle.lf_format.specs.declared.kind.Kind.TheVariants as kind
 use Rattle.lf_format.specs.declared.slot.Absent.{Absent}
 use Rattle.lf_format.specs.declared.slot.Absent.TheVariants.{No, Dash}
 use Rattle.lf_format.specs.CommonKinds.{zero_fits, one_fits, texts, bounded_texts, numbers}
-use Rattle.lf_format.specs.Runs.{run, past}
+use Rattle.lf_spelling.specs.Numbers.{greatest}
+use Rattle.lf_spelling.specs.Runs.{run, past}
+use Rattle.lf_spelling.specs.Texts.{is_nothing, begins_with}
+use Rattle.lf_spelling.specs.Enclosed.{is_not}
 use Rattle.envoy_front.specs.Length.{is_length, number_of, number_fits}
 use Rattle.envoy_front.specs.declared.table.Sort.{Sort}
 use Rattle.envoy_front.specs.declared.table.Sort.TheVariants.{Header, Data, Visible, Reason, Status, Count, Start}
-
--- whether the first byte is this one
-abbrev pub begins_with : ℕ → List ℕ → Bool
-begins_with c [] = false
-begins_with c (b ∷ text) = b == c
-
--- whether no byte is left
-abbrev pub is_nothing : List ℕ → Bool
-is_nothing [] = true
-is_nothing (b ∷ text) = false
 
 -- ---- the commands
 
@@ -66,9 +59,9 @@ sort_of name =
 
 -- ---- arguments
 
--- any byte but `?`
+-- a header's name: bytes but `?`
 abbrev pub is_in_name : ℕ → Bool
-is_in_name b = not (b == 63)
+is_in_name b = is_not 63 b
 
 -- the first name and what follows it are the names of headers: one alone, or two with `?` between them
 abbrev pub are_names : List ℕ → List ℕ → Bool
@@ -111,10 +104,6 @@ takes_length sort None = true
 takes_length sort (Some digits) = has_argument sort && is_length digits
 
 -- ---- what the slot holds
-
--- the greatest number of 63 bits
-abbrev pub greatest : ℕ
-greatest = 9223372036854775807
 
 -- the letters of a header's values: visible ones where the last name begins with `:`
 abbrev pub letters_of : Option (List ℕ) → Class

@@ -1,13 +1,15 @@
 //! The front itself: its items, and the reading of a whole text.
 
 ghost use Rattle.std.specs.Prelude.{◌≡◌, ◌≤◌, ℕ, List, length, IfOk};
-ghost use Rattle.lf_format.specs.Spelling.{AnswersFormat, AnswersFault};
+ghost use Rattle.lf_limits.specs.Limits.{most_text_bytes};
+ghost use Rattle.lf_spelling.specs.Spelling.{AnswersFormat, AnswersFault};
 ghost use Rattle.lf_format.specs.Shape.{Shape};
-ghost use Rattle.lf_format.specs.declared.fault.Cause.{Cause};
+ghost use Rattle.lf_spelling.specs.declared.fault.Cause.{Cause};
 ghost use Rattle.envoy_front.specs.Envoy.{Spells, IsFaulty, HasOneAnswer, without_end as text_without_end};
 
 use crate::command::percent;
-use lf_format::{Cause, Format, FormatFault, Front, Given, ItemFault, LineEnd, Taken, read_text};
+use lf_format::{Format, LineEnd};
+use lf_spelling::{Cause, FormatFault, Front, Given, ItemFault, Taken, read_text};
 use std::alloc::Global;
 
 /// Envoy's language, which has one state.
@@ -54,7 +56,7 @@ fn without_end(text: &str) -> &str
 /// The format that a text spells, or its first fault. One line feed at the very end of the text is the
 /// line's end and no part of the format.
 pub fn parse(alloc: Global, text: &str) -> Result<Format, FormatFault>
-    requires { length text.now ≤ 1048576 }
+    requires { length text.now ≤ most_text_bytes }
     // What is answered is so.
     ensures spelled { IfOk result (λ format. Spells text.now format) }
     ensures faulty { (place : ℕ) (cause : Cause) → result ≡ Err (FormatFault.At place cause) → IsFaulty text.now place cause }
@@ -70,5 +72,5 @@ pub fn parse(alloc: Global, text: &str) -> Result<Format, FormatFault>
 pub fn one_answer()
     ensures { (text : List ℕ) → HasOneAnswer text }
 {
-    lf_format::one_answer(&Envoy);
+    lf_spelling::one_answer(&Envoy);
 }

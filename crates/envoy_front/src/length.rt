@@ -1,14 +1,7 @@
 //! The length of a command: the most letters that its text may have.
 
 ghost use Rattle.std.specs.Prelude.{◌≡◌};
-ghost use Rattle.envoy_front.specs.Length.{is_digit as is_decimal, number_of, is_length as is_length_of};
-
-/// Whether the byte is a decimal digit.
-pub fn is_digit(b: u8) -> bool
-    ensures { result ≡ is_decimal b }
-{
-    48 <= b && b <= 57
-}
+ghost use Rattle.envoy_front.specs.Length.{number_of, is_length as is_length_of};
 
 /// The number that digits spell, and 65536 in the place of a greater one.
 pub fn number(digits: &[u8]) -> u32

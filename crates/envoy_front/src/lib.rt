@@ -7,6 +7,3 @@ mod length;
 mod table;
 
 pub use front::{one_answer, parse};
-
-#[cfg(test)]
-mod tests;

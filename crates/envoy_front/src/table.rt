@@ -1,15 +1,15 @@
 //! What each command stands for.
 
 ghost use Rattle.std.specs.Prelude.{◌≡◌, ◌==◌, not};
-ghost use Rattle.std.specs.List.{list_all, prefix_len};
+ghost use Rattle.std.specs.List.{list_all};
 ghost use Rattle.std.specs.Option.{option_copied};
-ghost use Rattle.lf_format.specs.Runs.{run, past};
 ghost use Rattle.envoy_front.specs.Table.{sort_of, is_header as is_header_name, is_data as is_data_name, is_address as is_address_name, is_word as is_word_name, is_count as is_count_name};
 ghost use Rattle.envoy_front.specs.Table.{is_in_name, last_name, letters_of, has_argument as sort_has_argument, is_argument_of, takes, takes_length, sized as sized_texts, kind_of as kind_of_sort, absence};
 
 use crate::length::{is_length, number};
 use lf_core::Class;
 use lf_format::{Absent, Kind};
+use lf_spelling::cut_before;
 use lf_time::IsoMillisZ;
 
 /// What sort of values a command stands for.
@@ -101,30 +101,7 @@ pub fn find_sort(name: &[u8]) -> Option<Sort>
 fn has_argument(sort: Sort) -> bool
     ensures { result ≡ sort_has_argument sort }
 {
-    match sort {
-        Sort::Header | Sort::Data => true,
-        _ => false,
-    }
-}
-
-/// The length of the first name of an argument.
-fn name_len(argument: &[u8]) -> usize
-    ensures { result ≡ prefix_len is_in_name argument.now }
-{
-    for (i, b) in argument.iter().enumerate() {
-        if *b == b'?' {
-            return i;
-        }
-    }
-    argument.len()
-}
-
-/// The first name of an argument, and what follows it.
-fn cut_first(argument: &[u8]) -> (&[u8], &[u8])
-    ensures front { result.0.now ≡ run is_in_name argument.now }
-    ensures back { result.1.now ≡ past is_in_name argument.now }
-{
-    argument.split_at(name_len(argument))
+    matches!(sort, Sort::Header | Sort::Data)
 }
 
 fn is_name(text: &[u8]) -> bool
@@ -137,7 +114,7 @@ fn is_name(text: &[u8]) -> bool
 fn are_names(argument: &[u8]) -> bool
     ensures { result ≡ is_argument_of Sort.Header argument.now }
 {
-    let (first, others) = cut_first(argument);
+    let (first, others) = cut_before(argument, b'?');
     let Some((_mark, second)) = others.split_first() else {
         return !first.is_empty();
     };
@@ -151,7 +128,7 @@ fn are_names(argument: &[u8]) -> bool
 fn last(argument: &[u8]) -> &[u8]
     ensures { result.now ≡ last_name argument.now }
 {
-    let Some((_mark, second)) = cut_first(argument).1.split_first() else {
+    let Some((_mark, second)) = cut_before(argument, b'?').1.split_first() else {
         return argument;
     };
     second

@@ -4,28 +4,31 @@ use Rattle.std.specs.Prelude.{codes}
 use Rattle.std.specs.List.{list_all}
 use Rattle.std.specs.Str.{bytes_eq}
 use Rattle.std.proofs.lemmas.Bool.{and_parts, not-true}
-use Rattle.lf_format.specs.Runs.{run, past}
-use Rattle.lf_format.proofs.RunCuts.{run_again}
-use Rattle.lf_format.specs.Items.{Failed}
-use Rattle.lf_format.specs.declared.fault.Cause.TheVariants.{LineBreak, BadFlags, Unclosed, BadName}
-use Rattle.lf_format.specs.declared.front.Given.{Given}
-use Rattle.lf_format.specs.declared.front.Given.TheVariants.{Nothing, Byte}
+use Rattle.lf_spelling.specs.Runs.{run, past, stops}
+use Rattle.lf_spelling.specs.RunLaws.{run_again, apart}
+use Rattle.lf_spelling.specs.Texts.{is_nothing, begins_with}
+use Rattle.lf_spelling.specs.Enclosed.{is_unclosed}
+use Rattle.lf_spelling.specs.EnclosedLaws.{part_again}
+use Rattle.lf_spelling.specs.Items.{Failed}
+use Rattle.lf_spelling.specs.declared.fault.Cause.TheVariants.{LineBreak, BadFlags, Unclosed, BadName}
+use Rattle.lf_spelling.specs.declared.front.Given.{Given}
+use Rattle.lf_spelling.specs.declared.front.Given.TheVariants.{Nothing, Byte}
 use Rattle.haproxy_front.specs.declared.flags.Flags.{Flags}
 use Rattle.haproxy_front.specs.declared.table.Row.{Row}
 use Rattle.haproxy_front.specs.Names.{is_alphanumeric}
 use Rattle.haproxy_front.specs.NameLaws.{table_named}
 use Rattle.haproxy_front.specs.Table.{row_of}
 use Rattle.haproxy_front.specs.Slots.{slot_of, given_of}
-use Rattle.haproxy_front.specs.Items.{is_plain, is_space, stops, braced, spelling, AreChanges, changed_by, IsItem, plain, spaces, percent, change, value, begins_with, is_nothing, is_unclosed, flags_of, after_flags, are_good}
+use Rattle.haproxy_front.specs.Items.{is_plain, is_space, braced, spelling, AreChanges, changed_by, IsItem, plain, spaces, percent, change, value, flags_of, after_flags, are_good}
 use Rattle.haproxy_front.specs.Reading.{found, on_row, on_name, on_named, on_item, on_percent, reading}
-use Rattle.haproxy_front.specs.Parts.{cut_again, changes_good}
+use Rattle.haproxy_front.specs.Parts.{changes_closed, no_percent, changes_good}
 
 pub percent_other : (held : Flags) (text : List ℕ) → begins_with 37 text ≡ false → on_percent held text ≡ on_item held text
 percent_other held [] hno = refl
 percent_other held (c ∷ text) hno = ap (λ v. cond v (found (37 ∷ 37 ∷ []) (Byte 37) held text) (on_item held (c ∷ text))) hno
 
 -- an item whose parts are these
-pub by_parts : (held : Flags) (text : List ℕ) (flags : Option (List ℕ)) (rest : List ℕ) → is_unclosed text ≡ false → flags_of text ≡ flags → after_flags text ≡ rest → are_good flags ≡ true → on_item held text ≡ on_named held (changed_by held flags) (37 ∷ braced flags) rest
+pub by_parts : (held : Flags) (text : List ℕ) (flags : Option (List ℕ)) (rest : List ℕ) → is_unclosed 123 125 text ≡ false → flags_of text ≡ flags → after_flags text ≡ rest → are_good flags ≡ true → on_item held text ≡ on_named held (changed_by held flags) (37 ∷ braced flags) rest
 by_parts held text flags rest shut flags_are rest_is good =
     ap (λ v. cond v (Failed Unclosed) (cond (not (are_good (flags_of text))) (Failed BadFlags) (on_named held (changed_by held (flags_of text)) (37 ∷ braced (flags_of text)) (after_flags text)))) shut
     ∙ ap (λ (f : Option (List ℕ)). cond (not (are_good f)) (Failed BadFlags) (on_named held (changed_by held f) (37 ∷ braced f) (after_flags text))) flags_are
@@ -42,10 +45,11 @@ item_again : (held : Flags) (flags : Option (List ℕ)) (name after : List ℕ) 
     → on_percent held ((braced flags ++ name) ++ after) ≡ on_name held (changed_by held flags) (spelling flags name) name after
 item_again held flags [] after changes some all stop = absurd cc
 item_again held flags (letter ∷ name) after changes some all stop =
-    let cut = cut_again flags letter (name ++ after) changes (and_parts (is_alphanumeric letter) (list_all is_alphanumeric name) all).0 in
+    let is = (and_parts (is_alphanumeric letter) (list_all is_alphanumeric name) all).0 in
+    let cut = part_again 123 125 flags (letter ∷ (name ++ after)) (changes_closed flags changes) (apart is_alphanumeric letter 123 is refl) in
     let text : List ℕ = braced flags ++ letter ∷ (name ++ after) in
-    ap (on_percent held) (append_assoc (braced flags) (letter ∷ name) after) ∙ percent_other held text cut.no_percent
-    ∙ by_parts held text flags (letter ∷ (name ++ after)) cut.shut cut.flags_are cut.rest_is (changes_good flags changes)
+    ap (on_percent held) (append_assoc (braced flags) (letter ∷ name) after) ∙ percent_other held text (no_percent flags letter (name ++ after) is)
+    ∙ by_parts held text flags (letter ∷ (name ++ after)) cut.shut cut.part_is cut.rest_is (changes_good flags changes)
     ∙ named_again held (changed_by held flags) (37 ∷ braced flags) (letter ∷ name) after all stop
 
 value_again : (held : Flags) (flags : Option (List ℕ)) (name : List ℕ) (row : Row) (after : List ℕ) → AreChanges flags → row_of name ≡ Some row → stops is_alphanumeric after ≡ true

@@ -2,16 +2,18 @@
 use Rattle.std.proofs.Common.{◌≡◌, ℕ, ◌≤◌, Bool, true, false, cond, not, List, ◌∷◌, ◌++◌, length, Option, Some, None, refl, sym, ap, subst, ◌∙◌, arith}
 use Rattle.std.specs.Prelude.{codes}
 use Rattle.std.specs.Str.{bytes_eq}
-use Rattle.lf_format.specs.Runs.{run, past}
-use Rattle.lf_format.specs.Items.{Reading, Failed}
-use Rattle.lf_format.specs.declared.fault.Cause.{Cause}
-use Rattle.lf_format.specs.declared.fault.Cause.TheVariants.{BadFlags, Unclosed, BadName}
-use Rattle.lf_format.specs.declared.front.Given.TheVariants.{Nothing}
+use Rattle.lf_spelling.specs.Runs.{run, past}
+use Rattle.lf_spelling.specs.Texts.{is_nothing}
+use Rattle.lf_spelling.specs.Enclosed.{is_unclosed}
+use Rattle.lf_spelling.specs.Items.{Reading, Failed}
+use Rattle.lf_spelling.specs.declared.fault.Cause.{Cause}
+use Rattle.lf_spelling.specs.declared.fault.Cause.TheVariants.{BadFlags, Unclosed, BadName}
+use Rattle.lf_spelling.specs.declared.front.Given.TheVariants.{Nothing}
 use Rattle.haproxy_front.specs.declared.flags.Flags.{Flags}
 use Rattle.haproxy_front.specs.declared.table.Row.{Row}
 use Rattle.haproxy_front.specs.Names.{is_alphanumeric}
 use Rattle.haproxy_front.specs.Table.{row_of}
-use Rattle.haproxy_front.specs.Items.{braced, changed_by, is_nothing, is_unclosed, flags_of, after_flags, are_good, row_cause, name_cause, cause_of, HasFault, line_feed, bad_item}
+use Rattle.haproxy_front.specs.Items.{braced, changed_by, flags_of, after_flags, are_good, row_cause, name_cause, cause_of, HasFault, line_feed, bad_item}
 use Rattle.haproxy_front.specs.Reading.{found, on_row, on_name, on_named, on_item, reading}
 use Rattle.haproxy_front.specs.AgainLaws.{percent_other}
 
@@ -46,7 +48,7 @@ item_fails : (held : Flags) (text : List ℕ) (cause : Cause) → cause_of text 
 unfolding said
 item_fails held text cause is =
     let name : List ℕ = run is_alphanumeric (after_flags text) in
-    cut_says (is_unclosed text) (are_good (flags_of text)) (on_named held (changed_by held (flags_of text)) (37 ∷ braced (flags_of text)) (after_flags text)) (name_cause (run is_alphanumeric (after_flags text)))
+    cut_says (is_unclosed 123 125 text) (are_good (flags_of text)) (on_named held (changed_by held (flags_of text)) (37 ∷ braced (flags_of text)) (after_flags text)) (name_cause (run is_alphanumeric (after_flags text)))
     (name_says held (changed_by held (flags_of text)) ((37 ∷ braced (flags_of text)) ++ run is_alphanumeric (after_flags text)) (run is_alphanumeric (after_flags text)) (past is_alphanumeric (after_flags text)))
     ∙ ap (λ (o : Option Cause). said o (on_item held text)) is
 

@@ -1,6 +1,10 @@
--- The changes of flags in braces.
+-- The flags at the start of a text, and their changes in braces.
 use Rattle.std.specs.Prelude.{ℕ, ◌==◌, ◌&&◌, ◌||◌, Bool, false, List, [], ◌∷◌, if◌then◌else◌}
 use Rattle.haproxy_front.specs.declared.flags.Flags.{Flags}
+
+-- at the start no flag holds
+abbrev pub at_start : Flags
+at_start = record { quotes = false; escapes = false; hexadecimal = false }
 
 -- `+` or `-`
 abbrev pub is_sign : ℕ → Bool

@@ -4,18 +4,21 @@ use Rattle.std.specs.Prelude.{codes}
 use Rattle.std.specs.Str.{bytes_eq}
 use Rattle.std.proofs.lemmas.Bool.{eqb-true, cond_both, not-false}
 use Rattle.std.proofs.lemmas.Slice.Eq.{bytes_eq-Decides}
-use Rattle.lf_format.specs.Runs.{run, past}
-use Rattle.lf_format.proofs.RunCuts.{run_join, run_all}
-use Rattle.lf_format.specs.Items.{Reading, Found, Failed}
-use Rattle.lf_format.specs.declared.fault.Cause.TheVariants.{LineBreak, BadFlags, Unclosed, BadName}
-use Rattle.lf_format.specs.declared.front.Given.TheVariants.{Nothing, Byte}
+use Rattle.lf_spelling.specs.Runs.{run, past, stops}
+use Rattle.lf_spelling.specs.RunLaws.{run_join, run_all}
+use Rattle.lf_spelling.specs.Texts.{is_nothing, begins_with}
+use Rattle.lf_spelling.specs.Enclosed.{is_unclosed}
+use Rattle.lf_spelling.specs.EnclosedLaws.{enclosed_parts}
+use Rattle.lf_spelling.specs.Items.{Reading, Found, Failed}
+use Rattle.lf_spelling.specs.declared.fault.Cause.TheVariants.{LineBreak, BadFlags, Unclosed, BadName}
+use Rattle.lf_spelling.specs.declared.front.Given.TheVariants.{Nothing, Byte}
 use Rattle.haproxy_front.specs.declared.flags.Flags.{Flags}
 use Rattle.haproxy_front.specs.declared.table.Row.{Row}
 use Rattle.haproxy_front.specs.Names.{is_alphanumeric}
 use Rattle.haproxy_front.specs.Table.{row_of}
-use Rattle.haproxy_front.specs.Items.{is_space, stops, braced, spelling, AreChanges, changed_by, IsItem, plain, spaces, percent, change, value, begins_with, is_nothing, is_unclosed, flags_of, after_flags, are_good, row_cause, name_cause, cause_of, HasFault, line_feed, bad_item}
+use Rattle.haproxy_front.specs.Items.{is_space, braced, spelling, AreChanges, changed_by, IsItem, plain, spaces, percent, change, value, flags_of, after_flags, are_good, row_cause, name_cause, cause_of, HasFault, line_feed, bad_item}
 use Rattle.haproxy_front.specs.Reading.{found, on_row, on_name, on_named, on_item, on_percent, reading}
-use Rattle.haproxy_front.specs.Parts.{past_stops, parts_join, good_changes}
+use Rattle.haproxy_front.specs.Parts.{past_stops, good_changes}
 
 -- the reading says what is so of the text
 unfoldable pub Fine : Flags → List ℕ → Reading Flags → Type 0
@@ -52,13 +55,13 @@ fine_item : (held : Flags) (text : List ℕ) → begins_with 37 text ≡ false �
 unfolding Fine
 fine_item held text other =
     let named : List ℕ = run is_alphanumeric (after_flags text) in
-    cond_both (is_unclosed text) (Failed Unclosed) (cond (not (are_good (flags_of text))) (Failed BadFlags) (on_named held (changed_by held (flags_of text)) (37 ∷ braced (flags_of text)) (after_flags text))) (Fine held (37 ∷ text))
+    cond_both (is_unclosed 123 125 text) (Failed Unclosed) (cond (not (are_good (flags_of text))) (Failed BadFlags) (on_named held (changed_by held (flags_of text)) (37 ∷ braced (flags_of text)) (after_flags text))) (Fine held (37 ∷ text))
     (λ u. bad_item text refl other (ap (λ v. cond v (Some Unclosed) (cond (not (are_good (flags_of text))) (Some BadFlags) (name_cause (run is_alphanumeric (after_flags text))))) u))
     (λ u. cond_both (not (are_good (flags_of text))) (Failed BadFlags) (on_named held (changed_by held (flags_of text)) (37 ∷ braced (flags_of text)) (after_flags text)) (Fine held (37 ∷ text))
     (λ e. bad_item text refl other (ap (λ v. cond v (Some Unclosed) (cond (not (are_good (flags_of text))) (Some BadFlags) (name_cause (run is_alphanumeric (after_flags text))))) u ∙ ap (λ v. cond v (Some BadFlags) (name_cause (run is_alphanumeric (after_flags text)))) e))
     (λ e. fine_name held text (flags_of text) (run is_alphanumeric (after_flags text)) (past is_alphanumeric (after_flags text))
     (record {
-      parts = parts_join text u ∙ ap (λ (t : List ℕ). braced (flags_of text) ++ t) (sym (run_join is_alphanumeric (after_flags text)));
+      parts = (enclosed_parts 123 125 text u).parts ∙ ap (λ (t : List ℕ). braced (flags_of text) ++ t) (sym (run_join is_alphanumeric (after_flags text)));
       changes = good_changes (flags_of text) (not-false (are_good (flags_of text)) e);
       stop = past_stops is_alphanumeric (after_flags text);
       other = other;

@@ -2,11 +2,13 @@
 use Rattle.std.specs.Prelude.{◌≡◌, ℕ, ◌==◌, ◌&&◌, not, Bool, true, false, List, [], ◌∷◌, ◌++◌, Option, Some, None, codes, if◌then◌else◌}
 use Rattle.std.specs.List.{list_all}
 use Rattle.std.specs.Str.{bytes_eq}
-use Rattle.lf_format.specs.Runs.{run, past}
-use Rattle.lf_format.specs.declared.fault.Cause.{Cause}
-use Rattle.lf_format.specs.declared.fault.Cause.TheVariants.{LineBreak, Unclosed, BadFlags, BadName, UnknownName}
-use Rattle.lf_format.specs.declared.front.Given.{Given}
-use Rattle.lf_format.specs.declared.front.Given.TheVariants.{Nothing, Byte}
+use Rattle.lf_spelling.specs.Runs.{run, stops}
+use Rattle.lf_spelling.specs.Texts.{is_nothing, begins_with}
+use Rattle.lf_spelling.specs.Enclosed.{enclosed, is_unclosed, part_of, after_part}
+use Rattle.lf_spelling.specs.declared.fault.Cause.{Cause}
+use Rattle.lf_spelling.specs.declared.fault.Cause.TheVariants.{LineBreak, Unclosed, BadFlags, BadName, UnknownName}
+use Rattle.lf_spelling.specs.declared.front.Given.{Given}
+use Rattle.lf_spelling.specs.declared.front.Given.TheVariants.{Nothing, Byte}
 use Rattle.haproxy_front.specs.declared.flags.Flags.{Flags}
 use Rattle.haproxy_front.specs.declared.table.Row.{Row}
 use Rattle.haproxy_front.specs.Flags.{are_flags, changed}
@@ -21,19 +23,9 @@ is_plain b = not (b == 10) && not (b == 32) && not (b == 37)
 abbrev pub is_space : ℕ → Bool
 is_space b = b == 32
 
--- any byte but `}`
-abbrev pub is_inside : ℕ → Bool
-is_inside b = not (b == 125)
-
--- whether the text is empty, or begins with a byte that doesn't pass the test
-abbrev pub stops : (ℕ → Bool) → List ℕ → Bool
-stops p [] = true
-stops p (b ∷ text) = not (p b)
-
 -- flags in braces, or none
 abbrev pub braced : Option (List ℕ) → List ℕ
-braced None = []
-braced (Some flags) = 123 ∷ (flags ++ 125 ∷ [])
+braced flags = enclosed 123 125 flags
 
 -- how a percent sign, flags and a name are spelled
 abbrev pub spelling : Option (List ℕ) → List ℕ → List ℕ
@@ -59,35 +51,13 @@ pub data IsItem (held : Flags) (bytes : List ℕ) (given : Given) (next : Flags)
 
 -- ---- what follows a percent sign, taken apart
 
--- whether the first byte is this one
-abbrev pub begins_with : ℕ → List ℕ → Bool
-begins_with c [] = false
-begins_with c (b ∷ text) = b == c
-
--- whether no byte is left
-abbrev pub is_nothing : List ℕ → Bool
-is_nothing [] = true
-is_nothing (b ∷ text) = false
-
--- all but the first byte
-abbrev pub without_first : List ℕ → List ℕ
-without_first [] = []
-without_first (b ∷ text) = text
-
--- there is a `{` and no `}` after it
-abbrev pub is_unclosed : List ℕ → Bool
-is_unclosed [] = false
-is_unclosed (b ∷ text) = if b == 123 then is_nothing (past is_inside text) else false
-
 -- what stands between `{` and the first `}`
 abbrev pub flags_of : List ℕ → Option (List ℕ)
-flags_of [] = None
-flags_of (b ∷ text) = if b == 123 then Some (run is_inside text) else None
+flags_of text = part_of 123 125 text
 
 -- what follows the flags and their `}`
 abbrev pub after_flags : List ℕ → List ℕ
-after_flags [] = []
-after_flags (b ∷ text) = if b == 123 then without_first (past is_inside text) else b ∷ text
+after_flags text = after_part 123 125 text
 
 -- whether there are no flags in braces, or they are changes
 abbrev pub are_good : Option (List ℕ) → Bool
@@ -109,7 +79,7 @@ name_cause name =
 -- the first fault of what follows a percent sign
 abbrev pub cause_of : List ℕ → Option Cause
 cause_of text =
-    if is_unclosed text then Some Unclosed else
+    if is_unclosed 123 125 text then Some Unclosed else
     if not (are_good (flags_of text)) then Some BadFlags else
     name_cause (run is_alphanumeric (after_flags text))
 

@@ -1,18 +1,20 @@
 -- What a reader finds at the front of a text.
 use Rattle.std.specs.Prelude.{ℕ, ◌==◌, not, List, [], ◌∷◌, ◌++◌, Option, Some, None, codes, if◌then◌else◌}
 use Rattle.std.specs.Str.{bytes_eq}
-use Rattle.lf_format.specs.Runs.{run, past}
-use Rattle.lf_format.specs.Items.{Item, Reading, Found, Failed}
-use Rattle.lf_format.specs.declared.fault.Cause.{Cause}
-use Rattle.lf_format.specs.declared.fault.Cause.TheVariants.{LineBreak, EmptyFormat, BadFlags, Unclosed, UnknownName, BadName}
-use Rattle.lf_format.specs.declared.front.Given.{Given}
-use Rattle.lf_format.specs.declared.front.Given.TheVariants.{Nothing, Byte}
+use Rattle.lf_spelling.specs.Runs.{run, past}
+use Rattle.lf_spelling.specs.Texts.{is_nothing}
+use Rattle.lf_spelling.specs.Enclosed.{is_unclosed}
+use Rattle.lf_spelling.specs.Items.{Item, Reading, Found, Failed}
+use Rattle.lf_spelling.specs.declared.fault.Cause.{Cause}
+use Rattle.lf_spelling.specs.declared.fault.Cause.TheVariants.{LineBreak, EmptyFormat, BadFlags, Unclosed, UnknownName, BadName}
+use Rattle.lf_spelling.specs.declared.front.Given.{Given}
+use Rattle.lf_spelling.specs.declared.front.Given.TheVariants.{Nothing, Byte}
 use Rattle.haproxy_front.specs.declared.flags.Flags.{Flags}
 use Rattle.haproxy_front.specs.declared.table.Row.{Row}
 use Rattle.haproxy_front.specs.Names.{is_alphanumeric}
 use Rattle.haproxy_front.specs.Table.{row_of}
 use Rattle.haproxy_front.specs.Slots.{slot_of, given_of}
-use Rattle.haproxy_front.specs.Items.{is_space, is_nothing, is_unclosed, flags_of, after_flags, are_good, braced, changed_by, IsItem, HasFault}
+use Rattle.haproxy_front.specs.Items.{is_space, flags_of, after_flags, are_good, braced, changed_by, IsItem, HasFault}
 
 -- an item that leaves these flags
 abbrev pub found : List ℕ → Given → Flags → List ℕ → Reading Flags
@@ -37,7 +39,7 @@ on_named held own front text = on_name held own (front ++ run is_alphanumeric te
 -- by what follows the percent sign of an item
 abbrev pub on_item : Flags → List ℕ → Reading Flags
 on_item held text =
-    if is_unclosed text then Failed Unclosed else
+    if is_unclosed 123 125 text then Failed Unclosed else
     if not (are_good (flags_of text)) then Failed BadFlags else
     on_named held (changed_by held (flags_of text)) (37 ∷ braced (flags_of text)) (after_flags text)
 

@@ -7,13 +7,13 @@ use Rattle.lf_core.specs.declared.class.TheConstants.Class as classes
 use Rattle.lf_format.specs.declared.kind.Kind.{Kind}
 use Rattle.lf_format.specs.declared.kind.Kind.TheVariants as kind
 use Rattle.lf_number.specs.declared.padded.Radix.TheVariants.{Sixteen}
-use Rattle.lf_format.specs.declared.kind.Coding.{Coding}
-use Rattle.lf_format.specs.declared.kind.Coding.TheVariants.{Raw, HaHash, HaCapture, HaEscape}
+use Rattle.lf_escape.specs.declared.coding.Coding.{Coding}
+use Rattle.lf_escape.specs.declared.coding.Coding.TheVariants.{Raw, HaHash, HaCapture, HaEscape}
 use Rattle.lf_format.specs.declared.slot.Absent.{Absent}
 use Rattle.lf_format.specs.declared.slot.Absent.TheVariants.{Blank}
 use Rattle.lf_format.specs.declared.slot.Slot.{Slot as OneSlot}
-use Rattle.lf_format.specs.declared.front.Given.{Given}
-use Rattle.lf_format.specs.declared.front.Given.TheVariants.{Slot, Braced}
+use Rattle.lf_spelling.specs.declared.front.Given.{Given}
+use Rattle.lf_spelling.specs.declared.front.Given.TheVariants.{Slot, Braced}
 use Rattle.lf_format.specs.CommonKinds.{zero_fits, one_fits, texts, bounded_texts, numbers, padded}
 use Rattle.haproxy_front.specs.declared.flags.Flags.{Flags}
 use Rattle.haproxy_front.specs.declared.table.Sort.{Sort}

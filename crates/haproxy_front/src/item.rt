@@ -2,15 +2,16 @@
 
 ghost use Rattle.std.specs.Prelude.{◌≡◌, ◌∷◌, ◌++◌, ◌+◌, ◌<◌, ◌^◌, ℕ, List, length, nat_le};
 ghost use Rattle.std.specs.List.{prefix_len};
-ghost use Rattle.lf_format.specs.Fronts.{GivesItem};
+ghost use Rattle.lf_spelling.specs.Fronts.{GivesItem};
 ghost use Rattle.haproxy_front.specs.Names.{is_alphanumeric};
-ghost use Rattle.haproxy_front.specs.Items.{is_space, is_inside};
+ghost use Rattle.lf_spelling.specs.Runs.{run};
+ghost use Rattle.haproxy_front.specs.Items.{is_space};
 ghost use Rattle.haproxy_front.specs.Reading.{on_named, on_item, on_percent};
 
 use crate::flags::Flags;
 use crate::slots::given;
 use crate::table::find_row;
-use lf_format::{Cause, Given, ItemFault, Taken};
+use lf_spelling::{Cause, Given, ItemFault, Taken, cut_part};
 use std::alloc::Global;
 
 fn is_name_byte(b: u8) -> bool
@@ -23,36 +24,24 @@ fn is_name_byte(b: u8) -> bool
 pub fn space_run(text: &[u8]) -> usize
     ensures { result ≡ prefix_len is_space text.now }
 {
-    for (i, b) in text.iter().enumerate() {
-        if *b != b' ' {
-            return i;
-        }
-    }
-    text.len()
+    text.iter().take_while(|b| **b == b' ').count()
 }
 
 /// How many letters and digits stand at the front.
 fn name_run(text: &[u8]) -> usize
     ensures { result ≡ prefix_len is_alphanumeric text.now }
 {
-    for (i, b) in text.iter().enumerate() {
-        if !is_name_byte(*b) {
-            return i;
-        }
-    }
-    text.len()
+    text.iter().take_while(|b| is_name_byte(**b)).count()
 }
 
-/// How many bytes stand before the first `}`.
-fn inside_run(text: &[u8]) -> usize
-    ensures { result ≡ prefix_len is_inside text.now }
+/// The letters and digits at the front.
+fn name_at(text: &[u8]) -> &str
+    ensures { result.now ≡ run is_alphanumeric text.now }
 {
-    for (i, b) in text.iter().enumerate() {
-        if *b == b'}' {
-            return i;
-        }
-    }
-    text.len()
+    let Ok(name) = str::from_utf8(text.split_at(name_run(text)).0) else {
+        unreachable!()
+    };
+    name
 }
 
 impl Flags {
@@ -67,47 +56,40 @@ impl Flags {
         requires { before + length text.now < 2 ^ 64 }
         ensures { (front : List ℕ) → before ≡ length front → GivesItem (on_named self.old own front text.now) self.new (front ++ text.now) result }
     {
-        let len = name_run(text);
-        let name = text.split_at(len).0;
+        let name = name_at(text);
+        let len = before + name.len();
         if name.is_empty() {
             return Err(ItemFault::Fault(Cause::BadName));
         }
-        if name == b"o".as_slice() {
+        if name == "o" {
             *self = own;
             return Ok(Taken {
                 given: Given::Nothing,
-                len: before + len,
+                len,
             });
         }
         let Some(row) = find_row(name) else {
             return Err(ItemFault::Fault(Cause::UnknownName));
         };
         let given = given(alloc, name, row, own)?;
-        Ok(Taken {
-            given,
-            len: before + len,
-        })
+        Ok(Taken { given, len })
     }
 
     /// An item, by what follows its percent sign.
     fn item_after(&mut self, alloc: Global, text: &[u8]) -> Result<Taken, ItemFault>
         ensures { GivesItem (on_item self.old text.now) self.new (37 ∷ text.now) result }
     {
-        let Some((first, inside)) = text.split_first() else {
-            return Err(ItemFault::Fault(Cause::BadName));
+        let Some(cut) = cut_part(text, b'{', b'}') else {
+            return Err(ItemFault::Fault(Cause::Unclosed));
         };
         let held = *self;
-        if *first != b'{' {
-            return self.named(alloc, held, 1, text);
-        }
-        let (changes, closed) = inside.split_at(inside_run(inside));
-        let Some((_brace, rest)) = closed.split_first() else {
-            return Err(ItemFault::Fault(Cause::Unclosed));
+        let Some(changes) = cut.part else {
+            return self.named(alloc, held, 1, cut.rest);
         };
         let Some(own) = held.change(changes) else {
             return Err(ItemFault::Fault(Cause::BadFlags));
         };
-        self.named(alloc, own, 3 + changes.len(), rest)
+        self.named(alloc, own, 3 + changes.len(), cut.rest)
     }
 
     /// What follows a percent sign.

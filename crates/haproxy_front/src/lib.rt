@@ -8,6 +8,3 @@ mod slots;
 mod table;
 
 pub use front::{one_answer, parse};
-
-#[cfg(test)]
-mod tests;

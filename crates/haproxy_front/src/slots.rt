@@ -1,14 +1,15 @@
 //! What a name gives under the flags that hold for it.
 
-ghost use Rattle.std.specs.Prelude.{◌≡◌, ◌∷◌, ◌<◌, All, IfOk};
+ghost use Rattle.std.specs.Prelude.{◌≡◌, IfOk};
 ghost use Rattle.haproxy_front.specs.Letters.{header_word};
 ghost use Rattle.haproxy_front.specs.Slots.{is_flagged as is_acted_on, path_letters, request_letters, flagged_numbers, kind_of as kind_by, plain_code, code_of as code_by, is_quoted as is_in_quotes, absence_of as absence_by, slot_of, given_of};
 
 use crate::flags::Flags;
 use crate::table::{Row, Sort};
-use lf_core::{Class, OutOfMemory, Str};
+use lf_core::{Class, OutOfMemory};
 use lf_domain::Radix;
-use lf_format::{Absent, Coding, Given, Kind, Slot};
+use lf_format::{Absent, Coding, Kind, Slot};
+use lf_spelling::{Given, spelled};
 use lf_time::HaTime;
 use std::alloc::Global;
 
@@ -128,25 +129,11 @@ fn absence_of(row: Row, flags: Flags) -> Absent
     row.absent
 }
 
-/// A percent sign and the name.
-fn spelled(alloc: Global, name: &[u8]) -> Result<Str, OutOfMemory>
-    requires { All (λ b. b < 128) name.now }
-    ensures { IfOk result (λ text. text ≡ 37 ∷ name.now) }
-{
-    let Ok(text) = str::from_utf8(name) else {
-        unreachable!()
-    };
-    let mut whole = String::from_str(alloc, "%")?;
-    whole.push_str(text)?;
-    Str::of(alloc, whole.as_str())
-}
-
 /// The slot of a name.
-fn slot(alloc: Global, name: &[u8], row: Row, flags: Flags) -> Result<Slot, OutOfMemory>
-    requires { All (λ b. b < 128) name.now }
+fn slot(alloc: Global, name: &str, row: Row, flags: Flags) -> Result<Slot, OutOfMemory>
     ensures { IfOk result (λ slot. slot ≡ slot_of name.now row flags) }
 {
-    let name = spelled(alloc, name)?;
+    let name = spelled(alloc, "%", name.as_bytes())?;
     Ok(Slot {
         name,
         kind: kind_of(row.sort, flags),
@@ -158,8 +145,7 @@ fn slot(alloc: Global, name: &[u8], row: Row, flags: Flags) -> Result<Slot, OutO
 }
 
 /// What a name gives: its slot, and braces around captures.
-pub fn given(alloc: Global, name: &[u8], row: Row, flags: Flags) -> Result<Given, OutOfMemory>
-    requires { All (λ b. b < 128) name.now }
+pub fn given(alloc: Global, name: &str, row: Row, flags: Flags) -> Result<Given, OutOfMemory>
     ensures { IfOk result (λ given. given ≡ given_of row.sort (slot_of name.now row flags)) }
 {
     let slot = slot(alloc, name, row, flags)?;

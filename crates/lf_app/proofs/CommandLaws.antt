@@ -1,24 +1,34 @@
 -- The words are one command.
-use Rattle.std.proofs.Common.{◌≡◌, ℕ, Bool, true, false, cond, List, sym, ◌∙◌, ap, subst, inl, inr}
-use Rattle.std.specs.Prelude.{Option, None, Some}
-use Rattle.std.proofs.lemmas.Bool.{cases_Bool, false≢true}
+use Rattle.std.proofs.Common.{◌≡◌, ℕ, ◌≤◌, Bool, true, false, ◌&&◌, cond, List, [], ◌∷◌, length, refl, sym, ◌∙◌, ap, subst, inl, inr}
+use Rattle.std.specs.Prelude.{All, Option, None, Some}
+use Rattle.std.specs.List.{list_all}
+use Rattle.std.specs.Str.{IsUtf8}
+use Rattle.std.proofs.lemmas.Bool.{cases_Bool, false≢true, ltb-true}
+use Rattle.std.proofs.lemmas.List.Elements.{All-nil, All-cons}
 use Rattle.lf_compile.specs.Accepted.{IsAccepted, IsCauseOf, IsAnswer}
 use Rattle.lf_compile.specs.declared.refused.Confusion.{Confusion}
 use Rattle.lf_compile.specs.declared.refused.Refused.{Refused}
 use Rattle.lf_compile.specs.declared.refused.Refused.TheVariants as causes
 use Rattle.lf_format.specs.Shape.{Shape}
-use Rattle.lf_format.specs.declared.fault.Cause.{Cause}
-use Rattle.lf_fronts.specs.Fronts.{HasOneAnswer}
+use Rattle.lf_format.specs.Keeps.{EachKept}
+use Rattle.lf_format.specs.declared.format.Piece.{Piece}
+use Rattle.lf_format.specs.declared.format.Piece.TheVariants as piece
+use Rattle.lf_spelling.specs.declared.fault.Cause.{Cause}
+use Rattle.lf_fronts.specs.Fronts.{Spells, HasOneAnswer}
+use Rattle.lf_fronts.specs.Keeps.{is_byte, AreOfBytes, IsFormat}
+use Rattle.lf_limits.specs.Limits.{most_text_bytes}
+use Rattle.lf_machine.specs.LineBytes.{IsByte, LiteralsAreBytes}
 use Rattle.lf_words.specs.declared.command.Command.{Command as CommandLine}
 use Rattle.lf_words.specs.declared.command.Front.{Front}
 use Rattle.lf_words.specs.declared.command.Side.{Side}
 use Rattle.lf_words.specs.declared.command.Verb.{Verb}
 use Rattle.lf_words.specs.declared.command.Verb.TheVariants as verbs
-use Rattle.lf_words.proofs.CommandLaws.{one_command_or_bad}
+use Rattle.lf_words.specs.Command.{IsCommand as IsLine, IsOneCommandOrBad, IsWord}
 use Rattle.lf_app.specs.declared.commands.Command.{Command}
-use Rattle.lf_app.specs.declared.commands.Command.TheVariants.{Refuse}
+use Rattle.lf_app.specs.declared.commands.Command.TheVariants.{Lines, Refuse}
+use Rattle.lf_app.specs.declared.commands.Job.TheVariants as jobs
 use Rattle.lf_app.specs.declared.commands.Refusal.TheVariants as refusals
-use Rattle.lf_app.specs.Commands.{IsAsked, faulty, plain, accepted, refused, plain_command, accepted_command, confused_command, IsRefusedFor, AsksFor, IsLineFor, IsCommand, is_built}
+use Rattle.lf_app.specs.Commands.{IsAsked, faulty, plain, accepted, refused, plain_command, accepted_command, confused_command, IsRefusedFor, AsksFor, IsLineFor, IsCommand, HasOneCommand, is_built, is_compiling}
 use Rattle.lf_app.specs.Progress.{IsReady, HasRecords}
 use Rattle.lf_json.proofs.Sorts.{record_json}
 
@@ -97,8 +107,11 @@ asks_one line a b one once p q = elim (cases_Bool (is_built line)) [
   | inr f ↦ asks-other line a f p ∙ sym (asks-other line b f q)
 ]
 
-line_for_one : (words : List (List ℕ)) (a b : Command) → SpellsOne → AnswersOnce → IsLineFor words a → IsLineFor words b → a ≡ b
-line_for_one words a b one once p q = elim (one_command_or_bad words) [
+abbrev pub LinesAreOne : Type 0
+LinesAreOne = (words : List (List ℕ)) → IsOneCommandOrBad words
+
+line_for_one : (words : List (List ℕ)) (a b : Command) → LinesAreOne → SpellsOne → AnswersOnce → IsLineFor words a → IsLineFor words b → a ≡ b
+line_for_one words a b lines one once p q = elim (lines words) [
   | inl u ↦
       let same : q.line ≡ p.line = u.2 q.line q.is ∙ sym (u.2 p.line p.is) in
       asks_one p.line a b one once p.asks (subst (λ (l : CommandLine). AsksFor l b) same q.asks)
@@ -106,11 +119,91 @@ line_for_one words a b one once p q = elim (one_command_or_bad words) [
 ]
 
 -- Words are no two commands.
-pub command_one : (words : List (List ℕ)) (a b : Command) → SpellsOne → AnswersOnce → IsCommand words a → IsCommand words b → a ≡ b
-command_one words a b one once (inl bad) (inl other) = bad.1 ∙ sym other.1
-command_one words a b one once (inl bad) (inr line) = absurd (bad.0 line.line line.is)
-command_one words a b one once (inr line) (inl bad) = absurd (bad.0 line.line line.is)
-command_one words a b one once (inr line) (inr other) = line_for_one words a b one once line other
+command_one : (words : List (List ℕ)) (a b : Command) → LinesAreOne → SpellsOne → AnswersOnce → IsCommand words a → IsCommand words b → a ≡ b
+command_one words a b lines one once (inl bad) (inl other) = bad.1 ∙ sym other.1
+command_one words a b lines one once (inl bad) (inr line) = absurd (bad.0 line.line line.is)
+command_one words a b lines one once (inr line) (inl bad) = absurd (bad.0 line.line line.is)
+command_one words a b lines one once (inr line) (inr other) = line_for_one words a b lines one once line other
+
+-- ---- and they are one
+
+-- The format of a command line is one of its words.
+abbrev pub FormatsAreWords : Type 0
+FormatsAreWords = (words : List (List ℕ)) (line : CommandLine) → IsLine words line → IsWord line.source.format
+
+-- What a text spells keeps what a format keeps.
+abbrev pub SpelledKeeps : Type 0
+SpelledKeeps = (front : Front) (text : List ℕ) (format : Shape) → IsUtf8 text → length text ≤ most_text_bytes → Spells front text format → IsFormat format
+
+-- Each format that keeps what a format keeps has an answer.
+abbrev pub AnswersSome : Type 0
+AnswersSome = (format : Shape) → EachKept format.pieces → LiteralsAreBytes format.pieces → (answer : Option Refused) × IsAnswer format answer
+
+both_true : (a b : Bool) → (a && b) ≡ true → (a ≡ true) × (b ≡ true)
+both_true true b e = (refl, e)
+both_true false b e = absurd (cc)
+
+all_bytes : (text : List ℕ) → list_all is_byte text ≡ true → All IsByte text
+all_bytes [] h = All-nil IsByte
+all_bytes (b ∷ text) h =
+    let both = both_true (is_byte b) (list_all is_byte text) h in
+    All-cons IsByte b text (ltb-true b 256 both.0) (all_bytes text both.1)
+
+literals : (pieces : List Piece) → AreOfBytes pieces → LiteralsAreBytes pieces
+literals [] h = tt
+literals (piece.Literal text ∷ pieces) h = (all_bytes text h.0, literals pieces h.1)
+literals (piece.Slot slot ∷ pieces) h = (tt, literals pieces h)
+
+-- A format that a command line spells keeps what a format keeps, and its literals are bytes.
+format_kept : SpelledKeeps → (source : Side) (format : Shape) → IsWord source.format → Spells source.front source.format format → EachKept format.pieces × LiteralsAreBytes format.pieces
+format_kept keeps source format word s = let kept = keeps source.front source.format format word.text word.short s in (kept.keeps.each, literals format.pieces kept.bytes)
+
+answered : (v : Verb) (source : Side) (format : Shape) → Spells source.front source.format format → is_compiling v ≡ true → (answer : Option Refused) → IsAnswer format answer → (c : Command) × IsAsked v source c
+answered v source format s t None h = (accepted_command v format, accepted format s t h refl)
+answered v source format s t (Some (causes.TooLarge size)) h = (Refuse (refusals.TooLarge size), refused format (causes.TooLarge size) s t h.0 refl)
+answered v source format s t (Some (causes.Hash rec)) h = (Refuse (refusals.NoteLine rec), refused format (causes.Hash rec) s t h.0 refl)
+answered v source format s t (Some (causes.Ambiguous confusion)) h = (confused_command v confusion, refused format (causes.Ambiguous confusion) s t h.0 refl)
+answered v source format s t (Some causes.OutOfMemory) h = absurd (h.1 refl)
+
+spelled_asks : (v : Verb) (source : Side) (format : Shape) → SpelledKeeps → AnswersSome → IsWord source.format → Spells source.front source.format format → (c : Command) × IsAsked v source c
+spelled_asks v source format keeps answers word s = elim (cases_Bool (is_compiling v)) [
+  | inl t ↦
+      let kept = format_kept keeps source format word s in
+      let answer = answers format kept.0 kept.1 in
+      answered v source format s t answer.0 answer.1
+  | inr f ↦ (plain_command v format, plain format s f refl)
+]
+
+some_asked : (v : Verb) (source : Side) → SpellsOne → SpelledKeeps → AnswersSome → IsWord source.format → (c : Command) × IsAsked v source c
+some_asked v source one keeps answers word = elim (one source.front source.format).some [
+  | inl spelled ↦ spelled_asks v source spelled.0 keeps answers word spelled.1
+  | inr fault ↦ (Refuse (refusals.BadFormat fault.0 fault.1), faulty fault.0 fault.1 fault.2 refl)
+]
+
+asked-other : (line : CommandLine) → is_built line ≡ false → AsksFor line (Refuse refusals.NotBuilt)
+asked-other line f = subst (λ (b : Bool). cond b (IsAsked line.verb line.source (Refuse refusals.NotBuilt)) (Refuse refusals.NotBuilt ≡ Refuse refusals.NotBuilt)) (sym f) refl
+
+some_asks : (line : CommandLine) → SpellsOne → SpelledKeeps → AnswersSome → IsWord line.source.format → (c : Command) × AsksFor line c
+some_asks line one keeps answers word = elim (cases_Bool (is_built line)) [
+  | inl t ↦ let asked = some_asked line.verb line.source one keeps answers word in (asked.0, asked-built line asked.0 t asked.1)
+  | inr f ↦ (Refuse refusals.NotBuilt, asked-other line f)
+]
+
+some_command : (words : List (List ℕ)) → LinesAreOne → FormatsAreWords → SpellsOne → SpelledKeeps → AnswersSome → (c : Command) × IsCommand words c
+some_command words lines formats one keeps answers = elim (lines words) [
+  | inl line ↦ let asks = some_asks line.0 one keeps answers (formats words line.0 line.1) in (asks.0, inr (record { line = line.0; is = line.1; asks = asks.1 }))
+  | inr bad ↦ (Refuse refusals.BadWords, inl (bad, refl))
+]
+
+-- Any words are one command.
+pub words_one : (words : List (List ℕ)) → LinesAreOne → FormatsAreWords → SpellsOne → SpelledKeeps → AnswersOnce → AnswersSome → HasOneCommand words
+words_one words lines formats one keeps once answers =
+    let some = some_command words lines formats one keeps answers in
+    record { command = some.0; is = some.1; only = λ other h. command_one words other some.0 lines one once h some.1 }
+
+-- Two commands that words are are the same.
+pub same_command : {words : List (List ℕ)} {a b : Command} → HasOneCommand words → IsCommand words a → IsCommand words b → a ≡ b
+same_command {a = a} {b = b} one p q = one.only a p ∙ sym (one.only b q)
 
 plain_ready : (v : Verb) (format : Shape) → IsReady (plain_command v format)
 plain_ready verbs.Check format = tt
@@ -123,10 +216,10 @@ plain_ready verbs.Gen format = tt
 accepted_ready : (v : Verb) (format : Shape) → IsAccepted format → IsReady (accepted_command v format)
 accepted_ready verbs.Check format h = tt
 accepted_ready verbs.Read format h = h.readable
-accepted_ready verbs.Write format h = h.readable
-accepted_ready verbs.Translate format h = h.readable
-accepted_ready verbs.Show format h = h.readable
-accepted_ready verbs.Gen format h = h.readable
+accepted_ready verbs.Write format h = tt
+accepted_ready verbs.Translate format h = tt
+accepted_ready verbs.Show format h = tt
+accepted_ready verbs.Gen format h = tt
 
 confused_records : (format : Shape) (confusion : Confusion) → IsCauseOf format (causes.Ambiguous confusion) → HasRecords confusion
 confused_records format confusion h = record {
@@ -137,10 +230,10 @@ confused_records format confusion h = record {
 confused_ready : (v : Verb) (confusion : Confusion) → HasRecords confusion → IsReady (confused_command v confusion)
 confused_ready verbs.Check confusion h = h
 confused_ready verbs.Read confusion h = h
-confused_ready verbs.Write confusion h = h
-confused_ready verbs.Translate confusion h = h
-confused_ready verbs.Show confusion h = h
-confused_ready verbs.Gen confusion h = h
+confused_ready verbs.Write confusion h = tt
+confused_ready verbs.Translate confusion h = tt
+confused_ready verbs.Show confusion h = tt
+confused_ready verbs.Gen confusion h = tt
 
 refused_ready : (v : Verb) (format : Shape) (cause : Refused) (c : Command) → IsCauseOf format cause → IsRefusedFor v cause c → IsReady c
 refused_ready v format (causes.TooLarge size) c h e = subst IsReady (sym e) tt
@@ -160,4 +253,52 @@ command_ready words c (inl bad) = subst IsReady (sym bad.1) tt
 command_ready words c (inr h) = elim (cases_Bool (is_built h.line)) [
   | inl t ↦ asked_ready h.line.verb h.line.source c (asks-built h.line c t h.asks)
   | inr f ↦ subst IsReady (sym (asks-other h.line c f h.asks)) tt
+]
+
+-- Where lines are read by a format, it keeps what each slot of a format keeps, and its literals are bytes.
+abbrev pub KeepsBytes : Command → Type 0
+KeepsBytes (Lines (jobs.Read format)) = EachKept format.pieces × LiteralsAreBytes format.pieces
+KeepsBytes command = Unit {0}
+
+plain_keeps : (v : Verb) (format : Shape) → KeepsBytes (plain_command v format)
+plain_keeps verbs.Check format = tt
+plain_keeps verbs.Read format = tt
+plain_keeps verbs.Write format = tt
+plain_keeps verbs.Translate format = tt
+plain_keeps verbs.Show format = tt
+plain_keeps verbs.Gen format = tt
+
+accepted_keeps : (v : Verb) (format : Shape) → EachKept format.pieces × LiteralsAreBytes format.pieces → KeepsBytes (accepted_command v format)
+accepted_keeps verbs.Check format kept = tt
+accepted_keeps verbs.Read format kept = kept
+accepted_keeps verbs.Write format kept = tt
+accepted_keeps verbs.Translate format kept = tt
+accepted_keeps verbs.Show format kept = tt
+accepted_keeps verbs.Gen format kept = tt
+
+confused_keeps : (v : Verb) (confusion : Confusion) → KeepsBytes (confused_command v confusion)
+confused_keeps verbs.Check confusion = tt
+confused_keeps verbs.Read confusion = tt
+confused_keeps verbs.Write confusion = tt
+confused_keeps verbs.Translate confusion = tt
+confused_keeps verbs.Show confusion = tt
+confused_keeps verbs.Gen confusion = tt
+
+refused_keeps : (v : Verb) (cause : Refused) (c : Command) → IsRefusedFor v cause c → KeepsBytes c
+refused_keeps v (causes.TooLarge size) c e = subst KeepsBytes (sym e) tt
+refused_keeps v (causes.Hash rec) c e = subst KeepsBytes (sym e) tt
+refused_keeps v (causes.Ambiguous confusion) c e = subst KeepsBytes (sym e) (confused_keeps v confusion)
+refused_keeps v causes.OutOfMemory c e = absurd e
+
+asked_keeps : (v : Verb) (source : Side) (c : Command) → SpelledKeeps → IsWord source.format → IsAsked v source c → KeepsBytes c
+asked_keeps v source c keeps word (faulty p x f e) = subst KeepsBytes (sym e) tt
+asked_keeps v source c keeps word (plain format s t e) = subst KeepsBytes (sym e) (plain_keeps v format)
+asked_keeps v source c keeps word (accepted format s t h e) = subst KeepsBytes (sym e) (accepted_keeps v format (format_kept keeps source format word s))
+asked_keeps v source c keeps word (refused format cause s t h e) = refused_keeps v cause c e
+
+pub command_keeps : (words : List (List ℕ)) (c : Command) → FormatsAreWords → SpelledKeeps → IsCommand words c → KeepsBytes c
+command_keeps words c formats keeps (inl bad) = subst KeepsBytes (sym bad.1) tt
+command_keeps words c formats keeps (inr h) = elim (cases_Bool (is_built h.line)) [
+  | inl t ↦ asked_keeps h.line.verb h.line.source c keeps (formats words h.line h.is) (asks-built h.line c t h.asks)
+  | inr f ↦ subst KeepsBytes (sym (asks-other h.line c f h.asks)) tt
 ]

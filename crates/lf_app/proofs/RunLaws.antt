@@ -5,16 +5,15 @@ use Rattle.std.proofs.lemmas.Bool.{cases_lt, cases_eq}
 use Rattle.std.proofs.lemmas.List.{append-nil}
 use Rattle.lf_stream.specs.Cut.{lines_of, whole_part}
 use Rattle.lf_stream.specs.Standing.{Stands, bytes_fed, is_finished, room_of, has_notes as may_have_notes}
-use Rattle.lf_stream.specs.declared.limits.TheConstants.{LEAST_ROOM}
+use Rattle.lf_limits.specs.Limits.{least_room, most_run_bytes}
 use Rattle.lf_stream.specs.declared.lines.Lines.{Lines as Cutter}
 use Rattle.lf_app.specs.declared.commands.Job.{Job}
-use Rattle.lf_io.specs.Faults.{Rose}
+use Rattle.lf_io.specs.Faults.{Rose, HasCause}
 use Rattle.lf_io.specs.Moves.{Takes, Gets, IsAtEnd}
 use Rattle.lf_io.proofs.Parts.{gets_both, gets_none, takes_both, takes_none}
 use Rattle.lf_app.specs.declared.verdict.Verdict.{Verdict}
 use Rattle.lf_app.specs.declared.report.Report.{Report}
 use Rattle.lf_app.specs.Verdicts.{AreVerdicts, has_notes, out_text, err_text, any_listed}
-use Rattle.lf_app.specs.declared.limits.TheConstants.{MOST_BYTES}
 use Rattle.lf_format.specs.Shape.{Shape}
 use Rattle.lf_app.specs.declared.commands.Command.{Command}
 use Rattle.lf_app.specs.declared.commands.Command.TheVariants.{Lines, Readable, Witness, Show, Refuse}
@@ -28,7 +27,7 @@ use Rattle.lf_app.specs.Commands.{TakesInput}
 use Rattle.lf_app.specs.Run.{IsFinal, IsCut, Reads, Front, IsSettled, IsCutStream, IsSinkFault, IsNoMemory, IsComplete}
 use Rattle.lf_app.specs.Promise.{KeepsLimit, Runs, Tells, Says, TellsText}
 use Rattle.lf_app.specs.Progress.{CanWork, HasRead, Reports, Grows}
-use Rattle.lf_app.specs.Flush.{Follows}
+use Rattle.lf_app.specs.Flush.{HasCauses, Follows}
 use Rattle.lf_app.proofs.LineLaws.{lines_grow}
 use Rattle.lf_app.proofs.VerdictLaws.{verdicts_front, out_append, err_append, listed_append}
 
@@ -67,7 +66,7 @@ pub settled_never : (c : Command) (status : ℕ) (left later : Option (List ℕ)
 settled_never c status left later out err never = record { ends = λ final. absurd (never final); at_end = λ final. absurd (never final) }
 
 -- A run that stops short, by a sink or for want of memory, has written fronts.
-pub runs_short : (job : Job) (lines : Cutter) (report : Report) (status : ℕ) (left now : Option (List ℕ)) (out err : List ℕ → Type 0) (taken more : List ℕ) (found : List Verdict) → CanWork job → HasRead job false lines report taken found → Takes left now (taken ++ more) → length (taken ++ more) ≤ MOST_BYTES → Front (out_text job found) out → Front (err_text 1 found) err → (status ≡ 5) ⊎ (status ≡ 6) → Runs (Lines job) status left now out err
+pub runs_short : (job : Job) (lines : Cutter) (report : Report) (status : ℕ) (left now : Option (List ℕ)) (out err : List ℕ → Type 0) (taken more : List ℕ) (found : List Verdict) → CanWork job → HasRead job false lines report taken found → Takes left now (taken ++ more) → length (taken ++ more) ≤ most_run_bytes → Front (out_text job found) out → Front (err_text 1 found) err → (status ≡ 5) ⊎ (status ≡ 6) → Runs (Lines job) status left now out err
 runs_short job lines report status left now out err taken more found can r takes most p q is = record {
   settled = settled_never (Lines job) status left now out err (λ final. omega (arith, is, final));
   reads = λ broken. absurd (omega (arith, is, broken));
@@ -111,7 +110,7 @@ read_emptied job lines mid new taken found is r = record {
 }
 
 -- The next bytes are read and written.
-pub follows_piece : (job : Job) (before after : Cutter) (old mid new : Report) (left later now : Option (List ℕ)) (og o1 o2 eg e1 e2 : Option (List ℕ)) (piece : List ℕ) → (f : Follows job before old left later (Gets og o1) (Gets eg e1)) → Grows job false after old mid (f.taken ++ piece) f.found → Takes later now piece → bytes_fed before + length piece ≤ MOST_BYTES → Gets o1 o2 mid.out → Gets e1 e2 mid.err → new ≡ record mid { out = []; err = [] } → Follows job after new left now (Gets og o2) (Gets eg e2)
+pub follows_piece : (job : Job) (before after : Cutter) (old mid new : Report) (left later now : Option (List ℕ)) (og o1 o2 eg e1 e2 : Option (List ℕ)) (piece : List ℕ) → (f : Follows job before old left later (Gets og o1) (Gets eg e1)) → Grows job false after old mid (f.taken ++ piece) f.found → Takes later now piece → bytes_fed before + length piece ≤ most_run_bytes → Gets o1 o2 mid.out → Gets e1 e2 mid.err → new ≡ record mid { out = []; err = [] } → Follows job after new left now (Gets og o2) (Gets eg e2)
 follows_piece job before after old mid new left later now og o1 o2 eg e1 e2 piece f g takes most p q is = record {
   taken = f.taken ++ piece;
   found = f.found ++ g.more;
@@ -126,18 +125,18 @@ follows_piece job before after old mid new left later now og o1 o2 eg e1 e2 piec
 }
 
 -- There was no memory to read the next bytes.
-pub runs_memory : (job : Job) (lines : Cutter) (report : Report) (left later now : Option (List ℕ)) (out err : List ℕ → Type 0) (piece : List ℕ) → CanWork job → Follows job lines report left later out err → Takes later now piece → bytes_fed lines + length piece ≤ MOST_BYTES → Runs (Lines job) 6 left now out err
+pub runs_memory : (job : Job) (lines : Cutter) (report : Report) (left later now : Option (List ℕ)) (out err : List ℕ → Type 0) (piece : List ℕ) → CanWork job → Follows job lines report left later out err → Takes later now piece → bytes_fed lines + length piece ≤ most_run_bytes → Runs (Lines job) 6 left now out err
 runs_memory job lines report left later now out err piece can f takes most =
     let all = takes_both left later now f.taken piece f.takes takes in
-    let fits : length (f.taken ++ piece) ≤ MOST_BYTES = omega (arith, f.read.holds.stands.fed, length-append f.taken piece, most) in
+    let fits : length (f.taken ++ piece) ≤ most_run_bytes = omega (arith, f.read.holds.stands.fed, length-append f.taken piece, most) in
     runs_short job lines report 6 left now out err f.taken piece f.found can f.read all fits (front_all (out_text job f.found) out f.out) (front_all (err_text 1 f.found) err f.err) (inr refl)
 
 -- A sink failed with what was found of the next bytes.
-pub runs_sink : (job : Job) (before after : Cutter) (old mid : Report) (left later now : Option (List ℕ)) (og o1 o2 eg e1 e2 : Option (List ℕ)) (piece : List ℕ) → CanWork job → (f : Follows job before old left later (Gets og o1) (Gets eg e1)) → Grows job false after old mid (f.taken ++ piece) f.found → Takes later now piece → bytes_fed before + length piece ≤ MOST_BYTES → Front mid.out (Gets o1 o2) → Front mid.err (Gets e1 e2) → Runs (Lines job) 5 left now (Gets og o2) (Gets eg e2)
+pub runs_sink : (job : Job) (before after : Cutter) (old mid : Report) (left later now : Option (List ℕ)) (og o1 o2 eg e1 e2 : Option (List ℕ)) (piece : List ℕ) → CanWork job → (f : Follows job before old left later (Gets og o1) (Gets eg e1)) → Grows job false after old mid (f.taken ++ piece) f.found → Takes later now piece → bytes_fed before + length piece ≤ most_run_bytes → Front mid.out (Gets o1 o2) → Front mid.err (Gets e1 e2) → Runs (Lines job) 5 left now (Gets og o2) (Gets eg e2)
 runs_sink job before after old mid left later now og o1 o2 eg e1 e2 piece can f g takes most p q =
     let all = takes_both left later now f.taken piece f.takes takes in
     let same : (f.taken ++ piece) ++ [] ≡ f.taken ++ piece = append-nil (f.taken ++ piece) in
-    let fits : length ((f.taken ++ piece) ++ []) ≤ MOST_BYTES = omega (arith, f.read.holds.stands.fed, length-append f.taken piece, ap length same, most) in
+    let fits : length ((f.taken ++ piece) ++ []) ≤ most_run_bytes = omega (arith, f.read.holds.stands.fed, length-append f.taken piece, ap length same, most) in
     runs_short job after mid 5 left now (Gets og o2) (Gets eg e2) (f.taken ++ piece) [] (f.found ++ g.more) can g.read (subst (Takes left now) (sym same) all) fits
     (front_more og o1 o2 (out_text job f.found) mid.out (out_text job (f.found ++ g.more)) f.out p (report_out job old mid f.found g.more f.no_out g.reports))
     (front_more eg e1 e2 (err_text 1 f.found) mid.err (err_text 1 (f.found ++ g.more)) f.err q (report_err job old mid f.found g.more f.no_err g.reports))
@@ -160,7 +159,7 @@ runs_last_memory job lines report left later out err can f =
     runs_memory job lines report left later later out err [] can f (takes_none later) (omega (arith, f.read.holds.stands.fed, f.most))
 
 -- The run has come to its end.
-pub runs_end : (job : Job) (before after : Cutter) (old mid : Report) (status : ℕ) (left later : Option (List ℕ)) (og o1 o2 eg e1 e2 : Option (List ℕ)) → (f : Follows job before old left later (Gets og o1) (Gets eg e1)) → Grows job true after old mid f.taken f.found → bytes_fed before < MOST_BYTES → IsAtEnd later → Gets o1 o2 mid.out → Gets e1 e2 mid.err → status ≡ cond mid.is_partial 3 0 → Runs (Lines job) status left later (Gets og o2) (Gets eg e2)
+pub runs_end : (job : Job) (before after : Cutter) (old mid : Report) (status : ℕ) (left later : Option (List ℕ)) (og o1 o2 eg e1 e2 : Option (List ℕ)) → (f : Follows job before old left later (Gets og o1) (Gets eg e1)) → Grows job true after old mid f.taken f.found → bytes_fed before < most_run_bytes → IsAtEnd later → Gets o1 o2 mid.out → Gets e1 e2 mid.err → status ≡ cond mid.is_partial 3 0 → Runs (Lines job) status left later (Gets og o2) (Gets eg e2)
 runs_end job before after old mid status left later og o1 o2 eg e1 e2 f g room end p q is =
     let all = f.found ++ g.more in
     let small : status ≤ 3 = status_small mid.is_partial status is in
@@ -214,7 +213,7 @@ runs_last_sink job before after old mid left later og o1 o2 eg e1 e2 can f g end
     }
 
 -- The source failed, or as many bytes were taken as a run takes.
-pub runs_broken : (job : Job) (lines : Cutter) (report : Report) (status : ℕ) (left later : Option (List ℕ)) (out err : List ℕ → Type 0) → Follows job lines report left later out err → ((status ≡ 4) × (bytes_fed lines < MOST_BYTES)) ⊎ ((status ≡ 8) × (MOST_BYTES ≤ bytes_fed lines)) → Runs (Lines job) status left later out err
+pub runs_broken : (job : Job) (lines : Cutter) (report : Report) (status : ℕ) (left later : Option (List ℕ)) (out err : List ℕ → Type 0) → Follows job lines report left later out err → ((status ≡ 4) × (bytes_fed lines < most_run_bytes)) ⊎ ((status ≡ 8) × (most_run_bytes ≤ bytes_fed lines)) → Runs (Lines job) status left later out err
 runs_broken job lines report status left later out err f is =
     let fed = f.read.holds.stands.fed in
     record {
@@ -237,7 +236,7 @@ runs_broken job lines report status left later out err f is =
     }
 
 -- A run begins.
-pub follows_none : (job : Job) (lines : Cutter) (report : Report) (left og eg : Option (List ℕ)) → Stands lines [] 0 → may_have_notes lines ≡ has_notes job → is_finished lines ≡ false → LEAST_ROOM ≤ room_of lines → report.count ≡ 0 → report.is_partial ≡ false → report.out ≡ [] → report.err ≡ [] → Follows job lines report left left (Gets og og) (Gets eg eg)
+pub follows_none : (job : Job) (lines : Cutter) (report : Report) (left og eg : Option (List ℕ)) → Stands lines [] 0 → may_have_notes lines ≡ has_notes job → is_finished lines ≡ false → least_room ≤ room_of lines → report.count ≡ 0 → report.is_partial ≡ false → report.out ≡ [] → report.err ≡ [] → Follows job lines report left left (Gets og og) (Gets eg eg)
 follows_none job lines report left og eg stands notes unended room count partial out err = record {
   taken = [];
   found = [];
@@ -373,7 +372,7 @@ told_witness confusion = record { has = λ input. refl; only = λ input other h.
 pub told_shown : (format : Shape) → IsTold (Show format) (shown format)
 told_shown format = record { has = λ input. refl; only = λ input other h. h; takes_none = λ h. h; good = inl (omega arith) }
 
-good_status : (refusal : Refusal) → (refusal_status refusal ≤ 3) ⊎ (refusal_status refusal ≡ 7)
+pub good_status : (refusal : Refusal) → (refusal_status refusal ≤ 3) ⊎ (refusal_status refusal ≡ 7)
 good_status refusals.BadWords = inl (omega arith)
 good_status (refusals.BadFormat place cause) = inl (omega arith)
 good_status refusals.NotBuilt = inl (omega arith)
@@ -389,6 +388,7 @@ pub cut_part : (c : Command) (status : ℕ) (left later : Option (List ℕ)) (s0
 cut_part c status left later s0 s1 o0 o1 e0 e1 out err r t = record {
   reads = r.reads;
   fault = t.source;
+  no_fault = t.source_kept;
   taken = r.limit.taken;
   takes = r.limit.takes;
   most = r.limit.most;
@@ -398,13 +398,13 @@ cut_part c status left later s0 s1 o0 o1 e0 e1 out err r t = record {
 }
 
 pub sink_part : (c : Command) (status : ℕ) (left later : Option (List ℕ)) (s0 s1 o0 o1 e0 e1 : ℕ) (out err : List ℕ → Type 0) → Runs c status left later out err → Tells status s0 s1 o0 o1 e0 e1 → IsSinkFault c status left o0 o1 e0 e1 out err
-sink_part c status left later s0 s1 o0 o1 e0 e1 out err r t = record { cause = t.sink; fronts = λ five. r.fronts (inl five) }
+sink_part c status left later s0 s1 o0 o1 e0 e1 out err r t = record { cause = t.sink; no_fault = t.sinks_kept; fronts = λ five. r.fronts (inl five) }
 
 pub memory_part : (c : Command) (status : ℕ) (left later : Option (List ℕ)) (out err : List ℕ → Type 0) → Runs c status left later out err → IsNoMemory c status left out err
 memory_part c status left later out err r = λ six. r.fronts (inr six)
 
 -- Where no count of faults rose, the run comes to its end or had no memory.
-run_ends : (c : Command) (status : ℕ) (left later : Option (List ℕ)) (out err : List ℕ → Type 0) (s0 s1 o0 o1 e0 e1 : ℕ) (bytes : List ℕ) → Runs c status left later out err → Tells status s0 s1 o0 o1 e0 e1 → (Rose s0 s1 → ⊥) → (Rose o0 o1 → ⊥) → (Rose e0 e1 → ⊥) → Reads c left bytes → length bytes < MOST_BYTES → IsFinal status ⊎ (status ≡ 6)
+run_ends : (c : Command) (status : ℕ) (left later : Option (List ℕ)) (out err : List ℕ → Type 0) (s0 s1 o0 o1 e0 e1 : ℕ) (bytes : List ℕ) → Runs c status left later out err → Tells status s0 s1 o0 o1 e0 e1 → (Rose s0 s1 → ⊥) → (Rose o0 o1 → ⊥) → (Rose e0 e1 → ⊥) → Reads c left bytes → length bytes < most_run_bytes → IsFinal status ⊎ (status ≡ 6)
 run_ends c status left later out err s0 s1 o0 o1 e0 e1 bytes r t no_s no_o no_e reads short =
     let not_four : status ≡ 4 → ⊥ = λ h. no_s (t.source h) in
     let not_five : status ≡ 5 → ⊥ = λ h. elim (t.sink h) [ inl a ↦ no_o a | inr b ↦ no_e b ] in
@@ -434,5 +434,59 @@ complete_part c status left later s0 s1 o0 o1 e0 e1 out err r t no_s no_o no_e =
   | inr six ↦ inr six
 ]
 
+-- At another status no count has changed.
+pub tells_quiet : (status s o e : ℕ) → status ≤ 8 → (status ≡ 4 → ⊥) → (status ≡ 5 → ⊥) → Tells status s s o o e e
+tells_quiet status s o e known not_four not_five = record {
+  source = λ four. absurd (not_four four);
+  sink = λ five. absurd (not_five five);
+  known = known;
+  source_kept = λ _. refl;
+  sinks_kept = λ _. (refl, refl);
+}
+
 pub tells_nothing : (s o e : ℕ) → Tells 6 s s o o e e
-tells_nothing s o e = record { source = λ h. absurd (omega (arith, h)); sink = λ h. absurd (omega (arith, h)); known = omega arith }
+tells_nothing s o e = tells_quiet 6 s o e (omega arith) (λ h. absurd (omega (arith, h))) (λ h. absurd (omega (arith, h)))
+
+-- What is told by the sinks' counts, where the source had no fault.
+pub tells_sinks : (status s0 s1 o0 o1 e0 e1 : ℕ) → s1 ≡ s0 → HasCauses o0 o1 e0 e1 (status ≡ 5) → (status ≡ 4 → ⊥) → status ≤ 8 → Tells status s0 s1 o0 o1 e0 e1
+tells_sinks status s0 s1 o0 o1 e0 e1 same causes not_four known = record {
+  source = λ four. absurd (not_four four);
+  sink = causes.cause;
+  known = known;
+  source_kept = λ _. same;
+  sinks_kept = causes.kept;
+}
+
+-- What is told at a fault of the source.
+pub tells_source : (s0 s1 o e : ℕ) → Rose s0 s1 → Tells 4 s0 s1 o o e e
+tells_source s0 s1 o e rose = record {
+  source = λ _. rose;
+  sink = λ five. absurd (omega (arith, five));
+  known = omega arith;
+  source_kept = λ other. absurd (other refl);
+  sinks_kept = λ _. (refl, refl);
+}
+
+-- What is told after counts that have stayed so far.
+pub tells_on : (status s s0 s1 o o0 o1 e e0 e1 : ℕ) → s0 ≡ s → o0 ≡ o → e0 ≡ e → Tells status s0 s1 o0 o1 e0 e1 → Tells status s s1 o o1 e e1
+tells_on status s s0 s1 o o0 o1 e e0 e1 p q r t =
+    subst (λ (x : ℕ). Tells status x s1 o o1 e e1) p (subst (λ (y : ℕ). Tells status s0 s1 y o1 e e1) q (subst (λ (z : ℕ). Tells status s0 s1 o0 o1 z e1) r t))
+
+told_status : (good status : ℕ) (text : Result (List ℕ) OutOfMemory) (appended : List ℕ → Type 0) → TellsText good status text appended → (status ≡ good) ⊎ (status ≡ 5) ⊎ (status ≡ 6)
+told_status good status (Ok text) appended h = elim h.1 [ inl a ↦ inl a | inr b ↦ inr (inl b) ]
+told_status good status (Err memory) appended h = inr (inr h.0)
+
+-- What is told by a text on one sink.
+pub tells_out : (good status s o0 o1 e : ℕ) (text : Result (List ℕ) OutOfMemory) (appended : List ℕ → Type 0) → (good ≤ 3) ⊎ (good ≡ 7) → TellsText good status text appended → HasCause o0 o1 (status ≡ 5) → Tells status s s o0 o1 e e
+tells_out good status s o0 o1 e text appended good_is says cause =
+    let known : (status ≡ good) ⊎ (status ≡ 5) ⊎ (status ≡ 6) = told_status good status text appended says in
+    tells_sinks status s s o0 o1 e e refl
+    (record { out_later = cause.later; err_later = omega arith; cause = λ five. inl (cause.cause five); kept = λ other. (cause.kept other, refl) })
+    (λ four. omega (arith, four, known, good_is)) (omega (arith, known, good_is))
+
+pub tells_err : (good status s o e0 e1 : ℕ) (text : Result (List ℕ) OutOfMemory) (appended : List ℕ → Type 0) → (good ≤ 3) ⊎ (good ≡ 7) → TellsText good status text appended → HasCause e0 e1 (status ≡ 5) → Tells status s s o o e0 e1
+tells_err good status s o e0 e1 text appended good_is says cause =
+    let known : (status ≡ good) ⊎ (status ≡ 5) ⊎ (status ≡ 6) = told_status good status text appended says in
+    tells_sinks status s s o o e0 e1 refl
+    (record { out_later = omega arith; err_later = cause.later; cause = λ five. inr (cause.cause five); kept = λ other. (refl, cause.kept other) })
+    (λ four. omega (arith, four, known, good_is)) (omega (arith, known, good_is))

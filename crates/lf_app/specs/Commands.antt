@@ -4,11 +4,10 @@ use Rattle.lf_compile.specs.Accepted.{IsAccepted, IsCauseOf}
 use Rattle.lf_compile.specs.declared.refused.Confusion.{Confusion}
 use Rattle.lf_compile.specs.declared.refused.Refused.{Refused}
 use Rattle.lf_compile.specs.declared.refused.Refused.TheVariants.{TooLarge, Hash, Ambiguous, OutOfMemory}
-use Rattle.lf_format.specs.Keeps.{EachKept, slots_in}
+use Rattle.lf_format.specs.Keeps.{slots_in}
 use Rattle.lf_fronts.specs.Fronts.{Spells, IsFaulty}
-use Rattle.lf_machine.specs.LineBytes.{LiteralsAreBytes}
 use Rattle.lf_format.specs.Shape.{Shape}
-use Rattle.lf_format.specs.declared.fault.Cause.{Cause}
+use Rattle.lf_spelling.specs.declared.fault.Cause.{Cause}
 use Rattle.lf_words.specs.Command.{IsCommand as IsLine, IsBad}
 use Rattle.lf_words.specs.declared.command.Command.{Command as CommandLine}
 use Rattle.lf_words.specs.declared.command.Side.{Side}
@@ -25,7 +24,8 @@ is_built_verb verbs.Check = true
 is_built_verb verbs.Read = true
 is_built_verb verbs.Write = true
 is_built_verb verbs.Show = true
-is_built_verb verb = false
+is_built_verb verbs.Translate = false
+is_built_verb verbs.Gen = false
 
 -- whether no narrowing is given
 abbrev pub is_wide : Option (List ℕ) → Bool
@@ -38,24 +38,39 @@ is_built line = is_built_verb line.verb && is_wide line.source.narrow
 
 -- whether the verb asks first whether the format is readable
 abbrev pub is_compiling : Verb → Bool
+is_compiling verbs.Check = true
+is_compiling verbs.Read = true
 is_compiling verbs.Write = false
 is_compiling verbs.Show = false
-is_compiling verb = true
+is_compiling verbs.Translate = false
+is_compiling verbs.Gen = false
 
--- what a verb asks for by a format, readable or not
+-- what a verb that doesn't ask so asks for by a format, readable or not
 abbrev pub plain_command : Verb → Shape → Command
+plain_command verbs.Check format = Refuse refusals.NotBuilt
+plain_command verbs.Read format = Refuse refusals.NotBuilt
+plain_command verbs.Write format = Lines (Write format)
 plain_command verbs.Show format = Show format
-plain_command verb format = Lines (Write format)
+plain_command verbs.Translate format = Refuse refusals.NotBuilt
+plain_command verbs.Gen format = Refuse refusals.NotBuilt
 
--- what is asked for by a format that isn't readable: `check` tells it, and every other verb is refused
+-- what a verb that asks so asks for by a format that isn't readable: `check` tells it, and the others are refused
 abbrev pub confused_command : Verb → Confusion → Command
 confused_command verbs.Check confusion = Witness confusion
-confused_command verb confusion = Refuse (refusals.Confused confusion)
+confused_command verbs.Read confusion = Refuse (refusals.Confused confusion)
+confused_command verbs.Write confusion = Refuse refusals.NotBuilt
+confused_command verbs.Show confusion = Refuse refusals.NotBuilt
+confused_command verbs.Translate confusion = Refuse refusals.NotBuilt
+confused_command verbs.Gen confusion = Refuse refusals.NotBuilt
 
--- what is asked for by a format that is accepted
+-- what a verb that asks so asks for by a format that is accepted
 abbrev pub accepted_command : Verb → Shape → Command
 accepted_command verbs.Check format = Readable (length (slots_in format.pieces))
-accepted_command verb format = Lines (Read format)
+accepted_command verbs.Read format = Lines (Read format)
+accepted_command verbs.Write format = Refuse refusals.NotBuilt
+accepted_command verbs.Show format = Refuse refusals.NotBuilt
+accepted_command verbs.Translate format = Refuse refusals.NotBuilt
+accepted_command verbs.Gen format = Refuse refusals.NotBuilt
 
 -- The verb asks for this by a format that is refused for this cause.
 abbrev pub IsRefusedFor : Verb → Refused → Command → Type 0
@@ -89,13 +104,13 @@ IsCommand words command = (IsBad words × (command ≡ Refuse refusals.BadWords)
 -- The command takes bytes from the input.
 abbrev pub TakesInput : Command → Type 0
 TakesInput (Lines job) = Unit {0}
-TakesInput command = ⊥
+TakesInput (Readable slots) = ⊥
+TakesInput (Witness confusion) = ⊥
+TakesInput (Show format) = ⊥
+TakesInput (Refuse refusal) = ⊥
 
--- The words are no two commands.
-abbrev pub IsOneCommand : List (List ℕ) → Type 0
-IsOneCommand words = (command other : Command) → IsCommand words command → IsCommand words other → command ≡ other
-
--- Where lines are read by a format, it keeps what each slot of a format keeps, and its literals are bytes.
-abbrev pub KeepsBytes : Command → Type 0
-KeepsBytes (Lines (Read format)) = EachKept format.pieces × LiteralsAreBytes format.pieces
-KeepsBytes command = Unit {0}
+-- The words are one command and no other.
+pub record HasOneCommand (words : List (List ℕ)) : Type 0 where
+  pub command : Command
+  pub is : IsCommand words command
+  pub only : (other : Command) → IsCommand words other → other ≡ command

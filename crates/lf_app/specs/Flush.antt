@@ -9,7 +9,7 @@ use Rattle.lf_io.specs.declared.sink.Put.TheVariants as put
 use Rattle.lf_app.specs.declared.verdict.Verdict.{Verdict}
 use Rattle.lf_app.specs.declared.report.Report.{Report}
 use Rattle.lf_app.specs.declared.status.Status.{Status}
-use Rattle.lf_app.specs.declared.limits.TheConstants.{MOST_BYTES}
+use Rattle.lf_limits.specs.Limits.{most_run_bytes}
 use Rattle.lf_app.specs.Verdicts.{out_text, err_text, any_listed}
 use Rattle.lf_app.specs.Progress.{HasRead}
 use Rattle.lf_app.specs.declared.commands.Command.TheVariants.{Lines}
@@ -21,11 +21,12 @@ abbrev pub Flushes : Report → Report → (List ℕ → Type 0) → (List ℕ �
 Flushes old new out err put.Done = out old.out × err old.err × (new ≡ record old { out = []; err = [] })
 Flushes old new out err put.Failed = Front old.out out × Front old.err err
 
--- Two sinks' counts never fall, and a failure is answered only where one rose.
+-- Two sinks' counts never fall, one rose where a failure is answered, and both stay where none is.
 pub record HasCauses (out_before out_now err_before err_now : ℕ) (failed : Type 0) : Type 0 where
   pub out_later : out_before ≤ out_now
   pub err_later : err_before ≤ err_now
   pub cause : failed → Rose out_before out_now ⊎ Rose err_before err_now
+  pub kept : (failed → ⊥) → (out_now ≡ out_before) × (err_now ≡ err_before)
 
 -- Bytes were taken, and all that was found of their whole lines is written.
 pub record Follows (job : Job) (lines : Cutter) (report : Report) (left later : Option (List ℕ)) (wrote_out wrote_err : List ℕ → Type 0) : Type 0 where
@@ -33,7 +34,7 @@ pub record Follows (job : Job) (lines : Cutter) (report : Report) (left later : 
   pub found : List Verdict
   pub read : HasRead job false lines report taken found
   pub takes : Takes left later taken
-  pub most : length taken ≤ MOST_BYTES
+  pub most : length taken ≤ most_run_bytes
   pub listed : report.is_partial ≡ any_listed found
   pub no_out : report.out ≡ []
   pub no_err : report.err ≡ []

@@ -1,11 +1,12 @@
 -- The outcome of a command on an input.
 use Rattle.std.specs.Prelude.{◌≡◌, ℕ, ◌+◌, cond, List, [], ◌∷◌, ◌++◌, codes}
 use Rattle.std.specs.Fmt.{decimal}
+use Rattle.lf_limits.specs.Limits.{most_size}
 use Rattle.lf_format.specs.Keeps.{slots_in}
 use Rattle.lf_format.specs.Kinds.{value_kind}
 use Rattle.lf_format.specs.Shape.{Shape}
-use Rattle.lf_format.specs.declared.fault.Cause.{Cause}
-use Rattle.lf_format.specs.declared.fault.Cause.TheVariants as cause
+use Rattle.lf_spelling.specs.declared.fault.Cause.{Cause}
+use Rattle.lf_spelling.specs.declared.fault.Cause.TheVariants as cause
 use Rattle.lf_format.specs.declared.kind.ValueKind.{ValueKind}
 use Rattle.lf_format.specs.declared.kind.ValueKind.TheVariants as sort
 use Rattle.lf_format.specs.declared.slot.Absent.{Absent}
@@ -49,7 +50,7 @@ abbrev pub refusal_text : Refusal → List ℕ
 refusal_text BadWords = codes "logfmt: bad command line"
 refusal_text (BadFormat place why) = codes "logfmt: source format: " ++ cause_text why ++ codes " at " ++ decimal place
 refusal_text NotBuilt = codes "logfmt: not built"
-refusal_text (TooLarge size) = codes "logfmt: size " ++ decimal size ++ codes " over 4096"
+refusal_text (TooLarge size) = codes "logfmt: size " ++ decimal size ++ codes " over " ++ decimal most_size
 refusal_text (NoteLine rec) = codes "logfmt: note line: " ++ json_text rec
 refusal_text (Confused confusion) = witness_text confusion
 
@@ -57,7 +58,10 @@ refusal_text (Confused confusion) = witness_text confusion
 abbrev pub refusal_status : Refusal → ℕ
 refusal_status (TooLarge size) = 7
 refusal_status (Confused confusion) = 1
-refusal_status refusal = 2
+refusal_status BadWords = 2
+refusal_status (BadFormat place why) = 2
+refusal_status NotBuilt = 2
+refusal_status (NoteLine rec) = 2
 
 -- an outcome that only writes a line on `err`
 abbrev pub told_err : ℕ → List ℕ → Outcome

@@ -5,12 +5,13 @@ use Rattle.lf_format.specs.Lines.{IsReadable}
 use Rattle.lf_json.specs.Text.{HasJson}
 use Rattle.lf_stream.specs.Cut.{known_lines}
 use Rattle.lf_stream.specs.Standing.{Stands, is_finished, room_of, has_notes as may_have_notes}
-use Rattle.lf_stream.specs.declared.limits.TheConstants.{LEAST_ROOM}
+use Rattle.lf_limits.specs.Limits.{least_room}
 use Rattle.lf_stream.specs.declared.lines.Lines.{Lines as Cutter}
 use Rattle.lf_app.specs.declared.commands.Command.{Command}
-use Rattle.lf_app.specs.declared.commands.Command.TheVariants.{Lines, Witness, Refuse}
+use Rattle.lf_app.specs.declared.commands.Command.TheVariants.{Lines, Readable, Witness, Show, Refuse}
 use Rattle.lf_app.specs.declared.commands.Job.{Job}
 use Rattle.lf_app.specs.declared.commands.Job.TheVariants as jobs
+use Rattle.lf_app.specs.declared.commands.Refusal.{Refusal}
 use Rattle.lf_app.specs.declared.commands.Refusal.TheVariants as refusals
 use Rattle.lf_app.specs.declared.report.Report.{Report}
 use Rattle.lf_app.specs.declared.verdict.Verdict.{Verdict}
@@ -35,7 +36,7 @@ pub record IsReading (job : Job) (over : Bool) (lines : Cutter) (report : Report
 pub record HasRead (job : Job) (over : Bool) (lines : Cutter) (report : Report) (stream : List ℕ) (found : List Verdict) : Type 0 where
   pub holds : Holds job over lines report stream found
   pub verdicts : AreVerdicts job (known_lines over (has_notes job) stream) found
-  pub room : LEAST_ROOM ≤ room_of lines
+  pub room : least_room ≤ room_of lines
 
 -- Some stream is being read.
 abbrev pub IsBegun : Job → Cutter → Report → Type 0
@@ -78,10 +79,19 @@ pub record HasRecords (confusion : Confusion) : Type 0 where
   pub first : All HasJson confusion.first
   pub second : All HasJson confusion.second
 
+-- What is said of the refusal can be written: records that it shows have a JSON text.
+abbrev pub CanTell : Refusal → Type 0
+CanTell refusals.BadWords = Unit {0}
+CanTell (refusals.BadFormat place cause) = Unit {0}
+CanTell refusals.NotBuilt = Unit {0}
+CanTell (refusals.TooLarge size) = Unit {0}
+CanTell (refusals.NoteLine rec) = All HasJson rec
+CanTell (refusals.Confused confusion) = HasRecords confusion
+
 -- The command can be done: its lines can be worked on, and records that it shows have a JSON text.
 abbrev pub IsReady : Command → Type 0
 IsReady (Lines job) = CanWork job
+IsReady (Readable slots) = Unit {0}
 IsReady (Witness confusion) = HasRecords confusion
-IsReady (Refuse (refusals.NoteLine rec)) = All HasJson rec
-IsReady (Refuse (refusals.Confused confusion)) = HasRecords confusion
-IsReady command = Unit {0}
+IsReady (Show format) = Unit {0}
+IsReady (Refuse refusal) = CanTell refusal

@@ -5,7 +5,7 @@ use Rattle.lf_core.specs.Adds.{BeginsWith}
 use Rattle.lf_io.specs.Moves.{Takes, IsAtEnd}
 use Rattle.lf_io.specs.Faults.{Rose}
 use Rattle.lf_stream.specs.Cut.{whole_part}
-use Rattle.lf_app.specs.declared.limits.TheConstants.{MOST_BYTES}
+use Rattle.lf_limits.specs.Limits.{most_run_bytes}
 use Rattle.lf_app.specs.declared.commands.Command.{Command}
 use Rattle.lf_app.specs.Commands.{TakesInput}
 use Rattle.lf_app.specs.Outcome.{Outcome, HasOutcome}
@@ -43,15 +43,16 @@ pub record WritesWholeLines (command : Command) (taken : List ℕ) (out err : Li
   pub wrote_err : err outcome.err
 
 -- `cut_stream`: a stream is cut only under a command that takes input, and only by a fault of the source or at the
--- MOST_BYTES-th byte; its whole lines are written.
+-- `most_run_bytes`-th byte; its whole lines are written. At every other status the source had no fault.
 pub record IsCutStream (command : Command) (status : ℕ) (left later : Option (List ℕ)) (faults_before faults_now : ℕ) (out err : List ℕ → Type 0) : Type 0 where
   pub reads : IsCut status → TakesInput command
   pub fault : status ≡ 4 → Rose faults_before faults_now
+  pub no_fault : (status ≡ 4 → ⊥) → faults_now ≡ faults_before
   pub taken : List ℕ
   pub takes : Takes left later taken
-  pub most : length taken ≤ MOST_BYTES
-  pub full : length taken ≡ MOST_BYTES → (status ≡ 5) ⊎ (status ≡ 6) ⊎ (status ≡ 8)
-  pub endless : status ≡ 8 → length taken ≡ MOST_BYTES
+  pub most : length taken ≤ most_run_bytes
+  pub full : length taken ≡ most_run_bytes → (status ≡ 5) ⊎ (status ≡ 6) ⊎ (status ≡ 8)
+  pub endless : status ≡ 8 → length taken ≡ most_run_bytes
   pub whole_lines : IsCut status → WritesWholeLines command taken out err
 
 -- A front of the text was appended.
@@ -63,9 +64,11 @@ abbrev pub WritesFronts : Command → Option (List ℕ) → (List ℕ → Type 0
 WritesFronts command left out err =
     (input : List ℕ) → Reads command left input → (o : Outcome) → HasOutcome command input o → Front o.out out × Front o.err err
 
--- `sink_fault`: SinkFault comes only where the faults of a sink rose, and fronts of the texts are written.
+-- `sink_fault`: SinkFault comes only where the faults of a sink rose, and fronts of the texts are written. At
+-- every other status no sink had a fault.
 pub record IsSinkFault (command : Command) (status : ℕ) (left : Option (List ℕ)) (out_before out_now err_before err_now : ℕ) (out err : List ℕ → Type 0) : Type 0 where
   pub cause : status ≡ 5 → Rose out_before out_now ⊎ Rose err_before err_now
+  pub no_fault : (status ≡ 5 → ⊥) → (out_now ≡ out_before) × (err_now ≡ err_before)
   pub fronts : status ≡ 5 → WritesFronts command left out err
 
 -- `no_memory`: at NoMemory fronts of the texts are written.
@@ -78,7 +81,7 @@ pub record HasStatus (command : Command) (input : List ℕ) (status : ℕ) : Typ
   pub has : HasOutcome command input outcome
   pub status_is : status ≡ outcome.status
 
--- `complete`: on an input of fewer than MOST_BYTES bytes the status is the outcome's, or NoMemory.
+-- `complete`: on an input of fewer than `most_run_bytes` bytes the status is the outcome's, or NoMemory.
 abbrev pub IsComplete : Command → ℕ → Option (List ℕ) → Type 0
 IsComplete command status left =
-    (input : List ℕ) → Reads command left input → length input < MOST_BYTES → HasStatus command input status ⊎ (status ≡ 6)
+    (input : List ℕ) → Reads command left input → length input < most_run_bytes → HasStatus command input status ⊎ (status ≡ 6)

@@ -35,7 +35,10 @@ IsFound (jobs.Read format) line (Read r) = Prints format.pieces r line
 IsFound (jobs.Read format) line Unread = PrintsNone format.pieces line
 IsFound (jobs.Write format) line (Written r) = ReadsJson format.pieces line (Ok r)
 IsFound (jobs.Write format) line (Bad bad) = ReadsJson format.pieces line (Err bad)
-IsFound job line finding = ⊥
+IsFound (jobs.Read format) line (Written r) = ⊥
+IsFound (jobs.Read format) line (Bad bad) = ⊥
+IsFound (jobs.Write format) line (Read r) = ⊥
+IsFound (jobs.Write format) line Unread = ⊥
 
 -- The verdict of a line: it is a note, or long, or what is found of it.
 abbrev pub IsVerdict : Job → List ℕ → Verdict → Type 0
@@ -119,4 +122,7 @@ any_listed (v ∷ vs) = is_listed v || any_listed vs
 abbrev pub IsOfFormat : Shape → Verdict → Type 0
 IsOfFormat format (Found (Read r)) = IsRecordOf format.pieces r
 IsOfFormat format (Found (Written r)) = IsRecordOf format.pieces r
-IsOfFormat format v = Unit {0}
+IsOfFormat format (Found Unread) = Unit {0}
+IsOfFormat format (Found (Bad bad)) = Unit {0}
+IsOfFormat format Note = Unit {0}
+IsOfFormat format Long = Unit {0}

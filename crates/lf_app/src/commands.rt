@@ -1,12 +1,15 @@
 ghost use Rattle.std.specs.Prelude.{◌≡◌, ◌≤◌, IfOk, true, length};
+ghost use Rattle.lf_limits.specs.Limits.{most_text_bytes};
 ghost use Rattle.lf_fronts.specs.Fronts.{Spells};
-ghost use Rattle.lf_app.specs.Commands.{is_built_verb as is_verb_built, is_built as is_line_built, accepted_command, IsRefusedFor, IsAsked, AsksFor, IsCommand};
+ghost use Rattle.lf_app.specs.Commands.{is_built_verb as is_verb_built, is_built as is_line_built, is_compiling, accepted_command, confused_command, IsRefusedFor, IsAsked, AsksFor, IsCommand};
 ghost use Rattle.lf_app.specs.Verdicts.{format_of, has_notes};
 
 use lf_compile::{CompileRefused, Confusion, Reader, Refused, compile};
 use lf_core::{OutOfMemory, Record, Str};
-use lf_format::{Cause, Format, FormatFault};
+use lf_format::Format;
 use lf_fronts::parse;
+use lf_spelling::{Cause, FormatFault};
+use lf_words::laws::format_is_a_word;
 use lf_words::{Command as CommandLine, Side, Verb, WordFault, read_words};
 use std::alloc::Global;
 
@@ -83,7 +86,23 @@ fn accepted(verb: Verb, reader: Reader) -> Command
 {
     match verb {
         Verb::Check => Command::Readable(reader.format().slots()),
-        _ => Command::Lines(Job::Read(reader)),
+        Verb::Read => Command::Lines(Job::Read(reader)),
+        Verb::Write | Verb::Show | Verb::Translate | Verb::Gen => {
+            Command::Refuse(Refusal::NotBuilt)
+        }
+    }
+}
+
+/// What is asked for by a format that isn't readable.
+fn confused(verb: Verb, confusion: Confusion) -> Command
+    ensures { result ≡ confused_command verb confusion }
+{
+    match verb {
+        Verb::Check => Command::Witness(confusion),
+        Verb::Read => Command::Refuse(Refusal::Confused(confusion)),
+        Verb::Write | Verb::Show | Verb::Translate | Verb::Gen => {
+            Command::Refuse(Refusal::NotBuilt)
+        }
     }
 }
 
@@ -94,15 +113,29 @@ fn refused(verb: Verb, cause: Refused) -> Result<Command, OutOfMemory>
     match cause {
         Refused::TooLarge(size) => Ok(Command::Refuse(Refusal::TooLarge(size))),
         Refused::Hash(record) => Ok(Command::Refuse(Refusal::NoteLine(record))),
-        Refused::Ambiguous(confusion) => match verb {
-            Verb::Check => Ok(Command::Witness(confusion)),
-            _ => Ok(Command::Refuse(Refusal::Confused(confusion))),
-        },
+        Refused::Ambiguous(confusion) => Ok(confused(verb, confusion)),
         Refused::OutOfMemory => Err(OutOfMemory),
     }
 }
 
-/// What a verb that is built asks for by this format.
+/// What a verb asks for by this format that asks first whether it is accepted.
+fn ask_compiled(
+    alloc: Global,
+    verb: Verb,
+    _source: &Side,
+    format: Format,
+) -> Result<Command, OutOfMemory>
+    requires spelled { Spells _source.now.front _source.now.format format }
+    requires compiling { is_compiling verb ≡ true }
+    ensures { IfOk result (IsAsked verb _source.now) }
+{
+    match compile(alloc, format) {
+        Ok(reader) => Ok(accepted(verb, reader)),
+        Err(CompileRefused { format: _, cause }) => refused(verb, cause),
+    }
+}
+
+/// What a verb asks for by this format.
 fn ask(alloc: Global, verb: Verb, _source: &Side, format: Format) -> Result<Command, OutOfMemory>
     requires { Spells _source.now.front _source.now.format format }
     ensures { IfOk result (IsAsked verb _source.now) }
@@ -110,16 +143,15 @@ fn ask(alloc: Global, verb: Verb, _source: &Side, format: Format) -> Result<Comm
     match verb {
         Verb::Write => Ok(Command::Lines(Job::Write(format))),
         Verb::Show => Ok(Command::Show(format)),
-        _ => match compile(alloc, format) {
-            Ok(reader) => Ok(accepted(verb, reader)),
-            Err(CompileRefused { format: _, cause }) => refused(verb, cause),
-        },
+        Verb::Translate => Ok(Command::Refuse(Refusal::NotBuilt)),
+        Verb::Gen => Ok(Command::Refuse(Refusal::NotBuilt)),
+        Verb::Check | Verb::Read => ask_compiled(alloc, verb, _source, format),
     }
 }
 
 /// What a command line asks for.
 fn read_line(alloc: Global, line: &CommandLine) -> Result<Command, OutOfMemory>
-    requires { is_line_built line.now ≡ true → length line.now.source.format ≤ 1048576 }
+    requires { is_line_built line.now ≡ true → length line.now.source.format ≤ most_text_bytes }
     ensures { IfOk result (AsksFor line.now) }
 {
     if !is_built(line) {
@@ -137,6 +169,7 @@ fn read_line(alloc: Global, line: &CommandLine) -> Result<Command, OutOfMemory>
 pub fn read_command(alloc: Global, words: &[Str]) -> Result<Command, OutOfMemory>
     ensures { IfOk result (IsCommand words.now) }
 {
+    format_is_a_word();
     match read_words(alloc, words) {
         Ok(line) => read_line(alloc, &line),
         Err(WordFault::Bad) => Ok(Command::Refuse(Refusal::BadWords)),

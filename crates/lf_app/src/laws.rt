@@ -2,21 +2,27 @@
 
 ghost use Rattle.std.specs.Prelude.{ℕ, List};
 ghost use Rattle.lf_app.specs.declared.commands.Command.{Command as OneCommand};
-ghost use Rattle.lf_app.specs.Commands.{IsCommand, IsOneCommand, KeepsBytes};
+ghost use Rattle.lf_app.specs.Commands.{IsCommand, HasOneCommand};
 ghost use Rattle.lf_app.specs.Outcome.{HasOneOutcome};
 
-/// No words are two commands. That they are one is told by reading them.
+/// Any words are one command and no other.
 pub fn words_are_one_command()
-    ensures { (words : List (List ℕ)) → IsOneCommand words }
+    ensures { (words : List (List ℕ)) → HasOneCommand words }
 {
-    lf_compile::laws::one_answer();
+    lf_words::laws::words_are_one_command_or_bad();
+    lf_words::laws::format_is_a_word();
     lf_fronts::one_answer();
+    lf_fronts::spelled_keeps();
+    lf_compile::laws::one_answer();
+    lf_compile::laws::some_answer();
 }
 
 /// A command that some words are has one outcome on an input and no other.
 pub fn command_has_one_outcome()
-    ensures { (words : List (List ℕ)) (command : OneCommand) → IsCommand words command → KeepsBytes command → (input : List ℕ) → HasOneOutcome command input }
+    ensures { (words : List (List ℕ)) (command : OneCommand) → IsCommand words command → (input : List ℕ) → HasOneOutcome command input }
 {
+    lf_words::laws::format_is_a_word();
+    lf_fronts::spelled_keeps();
     lf_compile::laws::lines_are_decided();
     lf_json::laws::lines_have_one_reading();
 }

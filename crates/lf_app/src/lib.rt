@@ -5,7 +5,6 @@ mod commands;
 mod flush;
 mod gate;
 pub mod laws;
-mod limits;
 mod passes;
 mod reading;
 mod report;
@@ -16,10 +15,5 @@ mod telling;
 mod verdict;
 
 pub use gate::{Gate, IdleGate};
-pub use lf_stream::LINE;
-pub use limits::MOST_BYTES;
 pub use running::run;
 pub use status::Status;
-
-#[cfg(test)]
-mod tests;

@@ -3,7 +3,7 @@ ghost use Rattle.lf_io.specs.Faults.{HasCause, Rose};
 ghost use Rattle.lf_io.specs.Moves.{Gets, Takes, IsAtEnd};
 ghost use Rattle.lf_io.specs.Steps.{Pulls};
 ghost use Rattle.lf_stream.specs.Standing.{bytes_fed};
-ghost use Rattle.lf_stream.specs.declared.limits.TheConstants.{LEAST_ROOM};
+ghost use Rattle.lf_limits.specs.Limits.{least_room, most_run_bytes};
 ghost use Rattle.lf_app.specs.declared.commands.Command.TheVariants as command;
 ghost use Rattle.lf_app.specs.Progress.{CanWork, IsOpen};
 ghost use Rattle.lf_app.specs.Promise.{Runs, Tells};
@@ -11,12 +11,12 @@ ghost use Rattle.lf_app.specs.Flush.{HasCauses, Follows, GoesOn};
 
 use crate::commands::Job;
 use crate::flush::flush;
-use crate::limits::MOST_BYTES;
 use crate::reading::{feed, finish};
 use crate::report::Report;
 use crate::status::Status;
 use lf_io::{Pulled, Put, Sink, Source};
-use lf_stream::{LEAST_ROOM, Lines};
+use lf_limits::MOST_RUN_BYTES;
+use lf_stream::Lines;
 use std::alloc::Global;
 
 /// The next bytes of the stream are read, and what is found of their lines is written.
@@ -31,8 +31,8 @@ fn pass_piece<O: Sink, E: Sink>(
 ) -> Result<(), Status>
     requires job { CanWork job.now }
     requires unended { IsOpen job.now lines.old report.old }
-    requires room { length piece.now ≤ LEAST_ROOM }
-    requires most { bytes_fed lines.old + length piece.now ≤ MOST_BYTES }
+    requires room { length piece.now ≤ least_room }
+    requires most { bytes_fed lines.old + length piece.now ≤ most_run_bytes }
     ensures goes_on { (left later now : Option (List ℕ)) (out_got err_got : Option (List ℕ))
         → Follows job.now lines.old report.old left later (Gets out_got (O.got out.old)) (Gets err_got (E.got err.old))
         → Takes later now piece.now
@@ -63,7 +63,7 @@ fn close<O: Sink, E: Sink>(
     requires unended { IsOpen job.now lines.old report.old }
     ensures runs { (left later : Option (List ℕ)) (out_got err_got : Option (List ℕ))
         → Follows job.now lines.old report.old left later (Gets out_got (O.got out.old)) (Gets err_got (E.got err.old))
-        → bytes_fed lines.old < MOST_BYTES → IsAtEnd later
+        → bytes_fed lines.old < most_run_bytes → IsAtEnd later
         → Runs (command.Lines job.now) result.0 left later (Gets out_got (O.got out.new)) (Gets err_got (E.got err.new)) }
     ensures faults { HasCauses (O.faults out.old) (O.faults out.new) (E.faults err.old) (E.faults err.new) (result.0 ≡ 5) }
     ensures known { result.0 ≤ 3 ⊎ result.0 ≡ 5 ⊎ result.0 ≡ 6 }
@@ -108,7 +108,7 @@ fn read_through<S: Source, O: Sink, E: Sink>(
 ) -> Status
     requires job { CanWork job.now }
     requires some { 0 < length buffer.old }
-    requires room { length buffer.old ≤ LEAST_ROOM }
+    requires room { length buffer.old ≤ least_room }
     ensures runs { Runs (command.Lines job.now) result.0 (S.left input.old) (S.left input.new) (Gets (O.got out.old) (O.got out.new)) (Gets (E.got err.old) (E.got err.new)) }
     ensures tells { Tells result.0 (S.faults input.old) (S.faults input.new) (O.faults out.old) (O.faults out.new) (E.faults err.old) (E.faults err.new) }
 {
@@ -117,7 +117,7 @@ fn read_through<S: Source, O: Sink, E: Sink>(
     };
     let mut report = Report::new(alloc);
     loop {
-        let most = MOST_BYTES - lines.fed();
+        let most = MOST_RUN_BYTES - lines.fed();
         if most == 0 {
             return Status(8);
         }
@@ -136,7 +136,7 @@ fn read_through<S: Source, O: Sink, E: Sink>(
 }
 
 /// How many bytes are pulled at a time.
-const BUFFER: usize = 262_144;
+const PIECE_BYTES: usize = 262_144;
 
 /// Works on the lines of the source, to its end.
 pub fn work_lines<S: Source, O: Sink, E: Sink>(
@@ -150,7 +150,7 @@ pub fn work_lines<S: Source, O: Sink, E: Sink>(
     ensures runs { Runs (command.Lines job.now) result.0 (S.left input.old) (S.left input.new) (Gets (O.got out.old) (O.got out.new)) (Gets (E.got err.old) (E.got err.new)) }
     ensures tells { Tells result.0 (S.faults input.old) (S.faults input.new) (O.faults out.old) (O.faults out.new) (E.faults err.old) (E.faults err.new) }
 {
-    match vec![in alloc; 0u8; BUFFER] {
+    match vec![in alloc; 0u8; PIECE_BYTES] {
         Ok(mut buffer) => read_through(alloc, job, buffer.as_mut_slice(), input, out, err),
         Err(_) => Status(6),
     }

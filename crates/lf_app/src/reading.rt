@@ -1,11 +1,10 @@
 ghost use Rattle.std.specs.Prelude.{◌≡◌, ◌+◌, ◌≤◌, Bool, false, true, ℕ, List, ◌++◌, length, IfOk, OnOk};
 ghost use Rattle.lf_stream.specs.Standing.{bytes_fed};
-ghost use Rattle.lf_stream.specs.declared.limits.TheConstants.{LEAST_ROOM};
+ghost use Rattle.lf_limits.specs.Limits.{least_room, most_run_bytes};
 ghost use Rattle.lf_app.specs.declared.verdict.Verdict.{Verdict as OneVerdict};
 ghost use Rattle.lf_app.specs.Progress.{CanWork, IsReading, HasRead, IsBegun, IsOpen, ReadsNext, Grows};
 
 use crate::commands::Job;
-use crate::limits::MOST_BYTES;
 use crate::report::Report;
 use crate::verdict::verdict_of;
 use lf_core::OutOfMemory;
@@ -59,8 +58,8 @@ pub fn feed(
 ) -> Result<(), OutOfMemory>
     requires job { CanWork job.now }
     requires unended { IsOpen job.now lines.old report.old }
-    requires room { length piece.now ≤ LEAST_ROOM }
-    requires most { bytes_fed lines.old + length piece.now ≤ MOST_BYTES }
+    requires room { length piece.now ≤ least_room }
+    requires most { bytes_fed lines.old + length piece.now ≤ most_run_bytes }
     ensures { OnOk result ((stream : List ℕ) (found : List OneVerdict)
         → HasRead job.now false lines.old report.old stream found
         → Grows job.now false lines.new report.old report.new (stream ++ piece.now) found) }

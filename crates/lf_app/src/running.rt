@@ -9,6 +9,7 @@ ghost use Rattle.lf_app.specs.Run.{IsSettled, IsCutStream, IsSinkFault, IsNoMemo
 
 use crate::commands::{Command, read_command};
 use crate::gate::Gate;
+use crate::laws::words_are_one_command;
 use crate::passes::work_lines;
 use crate::showing::{readable_text, refusal_status, refusal_text, show_text, witness_text};
 use crate::status::Status;
@@ -54,8 +55,7 @@ pub fn run<R: Threads + Sync, S: Source, O: Sink, E: Sink, G: Gate + Sync>(
     // No other status comes.
     ensures status { result.0 ≤ 8 }
 {
-    lf_compile::laws::one_answer();
-    lf_fronts::one_answer();
+    words_are_one_command();
     match read_command(alloc, words) {
         Ok(command) => answer(alloc, &command, input, out, err),
         Err(OutOfMemory) => Status(6),

@@ -1,5 +1,6 @@
 ghost use Rattle.std.specs.Prelude.{◌≡◌, ◌+◌, ◌≤◌, ◌++◌, ◌∷◌, [], length, codes, All, IfOk, OnOk};
 ghost use Rattle.std.specs.Fmt.{decimal};
+ghost use Rattle.lf_limits.specs.Limits.{most_slots};
 ghost use Rattle.lf_json.specs.Text.{HasJson};
 ghost use Rattle.lf_app.specs.declared.commands.Command.TheVariants as commands;
 ghost use Rattle.lf_app.specs.declared.commands.Refusal.TheVariants as refusals;
@@ -11,8 +12,10 @@ use crate::commands::Refusal;
 use crate::report::push_number;
 use lf_compile::Confusion;
 use lf_core::{Bytes, OutOfMemory, Record};
-use lf_format::{Absent, Cause, Format, Piece, Slot, ValueKind};
+use lf_format::{Absent, Format, Piece, Slot, ValueKind};
 use lf_json::{write_record, write_text};
+use lf_limits::MOST_SIZE;
+use lf_spelling::Cause;
 use std::alloc::Global;
 
 /// The word for a sort of values.
@@ -61,7 +64,7 @@ fn show_slot(number: u32, slot: &Slot, into: &mut Bytes) -> Result<(), OutOfMemo
 
 /// Appends what is shown of the slots of the pieces, numbered from this number on.
 fn show_slots(number: u32, pieces: &[Piece], into: &mut Bytes) -> Result<(), OutOfMemory>
-    requires { number + length (slots_in pieces.now) ≤ 129 }
+    requires { number + length (slots_in pieces.now) ≤ most_slots + 1 }
     ensures { OnOk result (into.new ≡ into.old ++ slot_lines number (slots_in pieces.now)) }
 {
     match pieces.split_first() {
@@ -130,7 +133,8 @@ fn push_size(size: u64, into: &mut Bytes) -> Result<(), OutOfMemory>
 {
     into.extend(b"logfmt: size ")?;
     push_number(size, into)?;
-    into.extend(b" over 4096")
+    into.extend(b" over ")?;
+    push_number(MOST_SIZE, into)
 }
 
 /// Appends the record of a note line.
@@ -176,7 +180,8 @@ pub fn refusal_status(refusal: &Refusal) -> u8
     match refusal {
         Refusal::TooLarge(_) => 7,
         Refusal::Confused(_) => 1,
-        _ => 2,
+        Refusal::BadWords | Refusal::BadFormat(_, _) | Refusal::NotBuilt | Refusal::NoteLine(_) =>
+            2,
     }
 }
 

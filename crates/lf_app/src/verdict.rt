@@ -20,7 +20,7 @@ pub enum Finding {
     Bad(BadRecord),
 }
 
-/// What is said of a line: it is a note, or longer than `LINE`, or what is found of it.
+/// What is said of a line: it is a note, or longer than `MOST_LINE_BYTES`, or what is found of it.
 #[derive(Debug, Drop)]
 pub enum Verdict {
     Note,

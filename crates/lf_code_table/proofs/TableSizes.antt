@@ -1,8 +1,8 @@
 -- How many proper prefixes the tables of the codes have.
 use Rattle.std.proofs.Common.{◌≡◌, ◌<◌, length, refl, arith}
-use Rattle.lf_format.specs.Size.{prefixes_of}
-use Rattle.lf_format.specs.declared.kind.Coding.{Coding}
-use Rattle.lf_format.specs.declared.kind.Coding.TheVariants.{Raw, ApacheHex, NginxHex, NginxJson, HaHash, HaCapture, HaEscape, PlusSpace, Doubled}
+use Rattle.lf_escape.specs.Codings.{prefixes_of}
+use Rattle.lf_escape.specs.declared.coding.Coding.{Coding}
+use Rattle.lf_escape.specs.declared.coding.Coding.TheVariants.{Raw, ApacheHex, NginxHex, NginxJson, HaHash, HaCapture, HaEscape, PlusSpace, Doubled}
 use Rattle.lf_code_table.specs.Table.{table_of, prefix_table}
 
 -- the table of a code has as many texts as the code's factor says

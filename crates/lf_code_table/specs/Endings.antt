@@ -1,7 +1,7 @@
 -- The letters of a code by the last bytes of their words.
 use Rattle.std.specs.Prelude.{◌≡◌, ℕ, zero, suc, ◌<◌, List, [], ◌∷◌, ◌++◌, length, get_or, Option, map, Bool, cond, ◌==◌}
-use Rattle.lf_format.specs.Codings.{coding_takes, coding_word}
-use Rattle.lf_format.specs.declared.kind.Coding.{Coding}
+use Rattle.lf_escape.specs.Codings.{coding_takes, coding_word}
+use Rattle.lf_escape.specs.declared.coding.Coding.{Coding}
 use Rattle.lf_code_table.specs.Lone.{lone_of, HasFirsts}
 use Rattle.lf_code_table.specs.Table.{table_of}
 

@@ -3,10 +3,7 @@ use Rattle.std.proofs.Common.{◌≡◌, ℕ, zero, suc, ◌<◌, ◌⊎◌, inl
 use Rattle.std.proofs.lemmas.Bool.Decides.{leb_tells}
 use Rattle.lf_code_table.specs.Table.{same_list, same_list-true, true-same_list, index_of, added, with_prefixes, prefix_table}
 use Rattle.std.proofs.lemmas.Bool.{cases_Bool}
-
-option_cases : {A : Type 0} (o : Option A) → (o ≡ None) ⊎ ((a : A) × (o ≡ Some a))
-option_cases None = inl refl
-option_cases (Some a) = inr (a, refl)
+use Rattle.lf_core.specs.Choices.{option_cases}
 
 -- the text stands in the table
 abbrev pub Has : List (List ℕ) → List ℕ → Type 0

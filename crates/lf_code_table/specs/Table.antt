@@ -2,8 +2,9 @@
 use Rattle.std.specs.Prelude.{◌≡◌, ℕ, zero, suc, List, [], ◌∷◌, ◌++◌, Option, None, Some, Bool, true, false, cond, ◌==◌, ◌&&◌}
 use Rattle.std.proofs.Common.{refl, arith}
 use Rattle.std.proofs.lemmas.Bool.Decides.{nat_tests}
-use Rattle.lf_format.specs.Codings.{coding_takes, coding_word}
-use Rattle.lf_format.specs.declared.kind.Coding.{Coding}
+use Rattle.std.proofs.lemmas.Bool.{and_parts}
+use Rattle.lf_escape.specs.Codings.{coding_takes, coding_word}
+use Rattle.lf_escape.specs.declared.coding.Coding.{Coding}
 
 -- the two lists are one
 abbrev pub same_list : List ℕ → List ℕ → Bool
@@ -35,16 +36,12 @@ prefix_table takes word (suc n) = cond (takes n) (with_prefixes (prefix_table ta
 abbrev pub table_of : Coding → List (List ℕ)
 table_of code = prefix_table (coding_takes code) (coding_word code) 256
 
-and-true : (a b : Bool) → a && b ≡ true → (a ≡ true) × (b ≡ true)
-and-true true b h = (refl, h)
-and-true false b h = cc
-
 pub same_list-true : (xs ys : List ℕ) → same_list xs ys ≡ true → xs ≡ ys
 same_list-true [] [] h = refl
 same_list-true [] (y ∷ ys) h = cc
 same_list-true (x ∷ xs) [] h = cc
 same_list-true (x ∷ xs) (y ∷ ys) h =
-    let t = and-true (x == y) (same_list xs ys) h in
+    let t = and_parts (x == y) (same_list xs ys) h in
     let e : x ≡ y = grind (arith, nat_tests, t.0) in
     let r : xs ≡ ys = same_list-true xs ys t.1 in
     cc

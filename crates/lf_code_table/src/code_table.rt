@@ -1,6 +1,6 @@
 ghost use Rattle.std.specs.Prelude.{◌≡◌, ◌<◌, ◌^◌, ◌++◌, [], ◌∷◌, IfOk, length, get_or};
 ghost use Rattle.std.specs.Option.{ForSome};
-ghost use Rattle.lf_format.specs.Codings.{coding_takes, coding_word};
+ghost use Rattle.lf_escape.specs.Codings.{coding_takes, coding_word};
 ghost use Rattle.lf_code_table.specs.Endings.{letters_ending};
 ghost use Rattle.lf_code_table.specs.Lone.{lone_of};
 ghost use Rattle.lf_code_table.specs.Table.{table_of, same_list, index_of};
@@ -9,7 +9,7 @@ use crate::endings::code_endings;
 use crate::lone::{first_numbers, lone_letters};
 use crate::prefixes::code_prefixes;
 use lf_core::{Bytes, OutOfMemory};
-use lf_format::Coding;
+use lf_escape::Coding;
 use std::alloc::Global;
 use std::marker::Model;
 
@@ -26,7 +26,7 @@ pub struct CodeTable {
 }
 
 impl Model for CodeTable {
-    ghost use Rattle.lf_format.specs.declared.kind.Coding.{Coding};
+    ghost use Rattle.lf_escape.specs.declared.coding.Coding.{Coding};
     ghost use Rattle.lf_code_table.specs.Endings.{IsTableOf};
 
     ghost Value = { Coding };

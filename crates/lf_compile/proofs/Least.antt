@@ -5,7 +5,7 @@ use Rattle.lf_format.specs.declared.slot.Slot.{Slot as OneSlot}
 use Rattle.lf_format.specs.declared.format.Piece.{Piece}
 use Rattle.lf_format.specs.declared.format.Piece.TheVariants.{Literal, Slot}
 use Rattle.lf_machine.specs.RecordOrder.{IsTextLess, order_text, IsValueLess, IsRecordLess}
-use Rattle.lf_witness.specs.Shared.{NotAbove, LineLe}
+use Rattle.lf_product.specs.Walk.{NotAbove, LineLe}
 use Rattle.lf_compile.specs.Confused.{IsAtMost}
 
 text_both : (cs ds : List ℕ) → IsTextLess cs ds → IsTextLess ds cs → ⊥

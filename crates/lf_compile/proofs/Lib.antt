@@ -1,4 +1,3 @@
-pub mod RunCases
 pub mod RecordLaws
 pub mod NoteLaws
 pub mod ConfusionLaws

@@ -8,13 +8,13 @@ use Rattle.lf_format.specs.declared.format.Piece.{Piece}
 use Rattle.lf_compile.specs.Accepted.{HasNoNote, IsTooLarge, IsRefusedNote, IsCauseOf, IsAnswer}
 use Rattle.lf_compile.specs.Confused.{IsLeastRecord, IsSecondRecord, IsLeastConfused}
 use Rattle.lf_compile.specs.Notes.{IsLeastNote}
-use Rattle.lf_compile.specs.declared.limits.TheConstants.{SIZE}
+use Rattle.lf_limits.specs.Limits.{most_size}
 use Rattle.lf_compile.specs.declared.refused.Confusion.{Confusion}
 use Rattle.lf_compile.specs.declared.refused.Refused.{Refused}
 use Rattle.lf_compile.specs.declared.refused.Refused.TheVariants.{TooLarge, Hash, Ambiguous, OutOfMemory}
 use Rattle.lf_compile.proofs.Least.{one_record, one_line}
 
-not_large : (format : Shape) (size : ℕ) → size_of format.pieces ≤ SIZE → IsTooLarge format size → ⊥
+not_large : (format : Shape) (size : ℕ) → size_of format.pieces ≤ most_size → IsTooLarge format size → ⊥
 not_large format size within large = let e = large.is in let over = large.over in omega (arith, e, over, within)
 
 not_note : (format : Shape) (rec : List Value) → HasNoNote format → IsRefusedNote format rec → ⊥

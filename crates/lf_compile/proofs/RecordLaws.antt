@@ -1,15 +1,16 @@
 -- What a machine with one run for each record says of the records that print a line.
 use Rattle.std.proofs.Common.{ℕ, inl, inr, List, sym, ap, ◌∙◌, subst}
 use Rattle.lf_core.specs.Marked.{Machine, IsWholeRun}
+use Rattle.lf_core.specs.Runs.{RunLe}
+use Rattle.lf_core.specs.RunLaws.{run_cases}
 use Rattle.lf_core.specs.declared.marked.Move.{Move}
 use Rattle.lf_core.specs.declared.values.Value.{Value}
 use Rattle.lf_format.specs.Lines.{Prints, IsReadable}
 use Rattle.lf_format.specs.declared.format.Piece.{Piece}
 use Rattle.lf_machine.specs.RecordOrder.{KeepsOrder}
 use Rattle.lf_machine.specs.Runs.{HasRuns, IsRecordOfRun}
-use Rattle.lf_witness.specs.Runs.{RunLe, IsLeastRun, IsSecondRun}
+use Rattle.lf_witness.specs.Runs.{IsLeastRun, IsSecondRun}
 use Rattle.lf_compile.specs.Confused.{IsOnlyRecord, IsAtMost, IsLeastRecord, IsSecondRecord}
-use Rattle.lf_compile.proofs.RunCases.{run_cases, same_or_less}
 
 -- A record that prints the line has a whole run over it.
 pub whole_of : (pieces : List Piece) (m : Machine) (run : List Value → List Move) → HasRuns pieces m run → (rec : List Value) (line : List ℕ) → Prints pieces rec line → IsWholeRun m line (run rec)
@@ -36,9 +37,9 @@ only_prints pieces m run runs readable line moves rec whole is = record {
 -- Of two records that print one line, the one whose run isn't above the other's is less, or the same.
 at_most : (pieces : List Piece) (m : Machine) (run : List Value → List Move) → HasRuns pieces m run → KeepsOrder pieces run → (rec other : List Value) (line : List ℕ) → Prints pieces rec line → Prints pieces other line → RunLe (run rec) (run other) → IsAtMost pieces rec other
 at_most pieces m run runs order rec other line p q le =
-    elim (same_or_less m.moves m.first m.first line (run rec) (run other) (whole_of pieces m run runs rec line p).0 (whole_of pieces m run runs other line q).0 le) [
-      | inl e ↦ inl (runs.apart rec other p.held q.held e)
-      | inr less ↦ inr (order rec other p.held q.held (p.printed ∙ sym q.printed) less)
+    elim le [
+      | inl less ↦ inr (order rec other p.held q.held (p.printed ∙ sym q.printed) less)
+      | inr e ↦ inl (runs.apart rec other p.held q.held e)
     ]
 
 -- The record of the least whole run is the least record.

@@ -19,7 +19,7 @@ use Rattle.lf_machine.proofs.LineOrder.{line-order}
 use Rattle.lf_product.proofs.Ambiguity.{ambiguity-decided}
 use Rattle.lf_witness.proofs.Existence.{least_there, headed_or_none}
 use Rattle.lf_compile.specs.Accepted.{IsAnswer, HasNoNote}
-use Rattle.lf_compile.specs.declared.limits.TheConstants.{SIZE}
+use Rattle.lf_limits.specs.Limits.{most_size}
 use Rattle.lf_compile.specs.declared.refused.Refused.{Refused}
 use Rattle.lf_compile.specs.declared.refused.Refused.TheVariants.{TooLarge, Hash, Ambiguous}
 use Rattle.lf_compile.proofs.ConfusionLaws.{readable_is, least_confused}
@@ -41,7 +41,7 @@ record_of pieces runs line moves whole =
     )
 
 -- Where no record's line is a note, the format is accepted or ambiguous.
-some_reading : (format : Shape) → size_of format.pieces ≤ SIZE → HasNoNote format → HasRuns format.pieces (line_machine format.pieces) (record_moves format.pieces) → KeepsOrder format.pieces (record_moves format.pieces) → (answer : Option Refused) × IsAnswer format answer
+some_reading : (format : Shape) → size_of format.pieces ≤ most_size → HasNoNote format → HasRuns format.pieces (line_machine format.pieces) (record_moves format.pieces) → KeepsOrder format.pieces (record_moves format.pieces) → (answer : Option Refused) × IsAnswer format answer
 some_reading format within apart runs order =
     let pieces = format.pieces in
     let m = line_machine pieces in
@@ -70,7 +70,7 @@ some_answer format kept bytes =
     let runs = line-runs pieces kept bytes in
     let order = line-order pieces kept in
     let m = line_machine pieces in
-    elim (cases_lt SIZE (size_of pieces)) [
+    elim (cases_lt most_size (size_of pieces)) [
       | inl over ↦ (Some (TooLarge (size_of pieces)), (record { is = refl; over = over }, λ e. cc))
       | inr within ↦ elim (cases_Bool format.notes) [
         | inr none ↦ some_reading format (omega (arith, within)) (λ t. absurd (false≢true (sym none ∙ t))) runs order

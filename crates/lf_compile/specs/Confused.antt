@@ -4,7 +4,7 @@ use Rattle.lf_core.specs.declared.values.Value.{Value}
 use Rattle.lf_format.specs.Lines.{Prints, IsConfused}
 use Rattle.lf_format.specs.declared.format.Piece.{Piece}
 use Rattle.lf_machine.specs.RecordOrder.{IsRecordLess}
-use Rattle.lf_witness.specs.Shared.{LineLe}
+use Rattle.lf_product.specs.Walk.{LineLe}
 
 -- The record prints the line, and no other does.
 pub record IsOnlyRecord (pieces : List Piece) (line : List ℕ) (rec : List Value) : Type 0 where

@@ -3,7 +3,7 @@ use Rattle.std.specs.Prelude.{ℕ, List, ◌∷◌}
 use Rattle.lf_core.specs.declared.values.Value.{Value}
 use Rattle.lf_format.specs.Lines.{Prints}
 use Rattle.lf_format.specs.declared.format.Piece.{Piece}
-use Rattle.lf_witness.specs.Shared.{LineLe}
+use Rattle.lf_product.specs.Walk.{LineLe}
 use Rattle.lf_compile.specs.Confused.{IsLeastRecord}
 
 -- Some record's line begins with `#`.

@@ -1,20 +1,23 @@
 ghost use Rattle.std.specs.Prelude.{◌≡◌, ℕ, ◌≤◌, ◌⊎◌, List, Option, MatchOption, MatchResult, IfOk, IfErr, true};
 ghost use Rattle.lf_core.specs.declared.values.Value.{Value};
+ghost use Rattle.lf_core.specs.Written.{written};
 ghost use Rattle.lf_format.specs.Size.{size_of};
+ghost use Rattle.lf_limits.specs.Limits.{most_size};
+ghost use Rattle.lf_machine.specs.LineMachine.{line_machine};
 ghost use Rattle.lf_compile.specs.Accepted.{HasNoNote, IsAccepted, IsTooLarge, IsRefusedNote, IsRefusedConfusion, IsCauseOf, IsAnswer};
 ghost use Rattle.lf_compile.specs.Notes.{IsLeastNote};
 ghost use Rattle.lf_compile.specs.declared.refused.Confusion.{Confusion};
 ghost use Rattle.lf_compile.specs.declared.refused.Refused.{Refused};
 
 use crate::confusion::least_confusion;
-use crate::limits::SIZE;
 use crate::note::least_note;
 use crate::reader::Reader;
 use crate::refused::{CompileRefused, Refused};
-use crate::written_machine::written_machine;
 use lf_core::{OutOfMemory, Record};
 use lf_format::Format;
+use lf_limits::MOST_SIZE;
 use lf_machine::FormatMachine;
+use lf_product::{Pairs, distances};
 use lf_written::Written;
 use std::alloc::Global;
 
@@ -33,7 +36,7 @@ pub fn compile(alloc: Global, format: Format) -> Result<Reader, CompileRefused>
         (λ refused. (answer ≡ Some refused.cause) ⊎ (refused.cause ≡ Refused.OutOfMemory)) }
 {
     let size = format.size();
-    if size > SIZE {
+    if size > MOST_SIZE {
         return Err(CompileRefused {
             format,
             cause: Refused::TooLarge(size),
@@ -47,18 +50,20 @@ pub fn compile(alloc: Global, format: Format) -> Result<Reader, CompileRefused>
 
 /// The machine of the format, where that has a reader.
 fn readable_machine(alloc: Global, format: &Format) -> Result<Written<FormatMachine>, Refused>
-    requires { size_of format.now.pieces ≤ SIZE }
+    requires { size_of format.now.pieces ≤ most_size }
     ensures same { IfOk result (λ machine. machine ≡ format.now.pieces) }
     ensures ok { IfOk result (λ machine. IsAccepted format.now) }
     ensures err { IfErr result (λ cause. IsCauseOf format.now cause) }
 {
-    let machine = written_machine(alloc, format)?;
-    if let Some(record) = refused_note(alloc, format, &machine)? {
+    let machine = FormatMachine::build(alloc, format)?;
+    machine.is_small();
+    let pairs = distances(alloc, &machine)?;
+    if let Some(record) = refused_note(alloc, format, &machine, &pairs)? {
         return Err(Refused::Hash(record));
     }
-    match least_confusion(alloc, &machine)? {
+    match least_confusion(alloc, &machine, &pairs)? {
         Some(confusion) => Err(Refused::Ambiguous(confusion)),
-        None => Ok(machine),
+        None => Ok(Written::new(machine, pairs.into_table())),
     }
 }
 
@@ -66,9 +71,11 @@ fn readable_machine(alloc: Global, format: &Format) -> Result<Written<FormatMach
 fn refused_note(
     alloc: Global,
     format: &Format,
-    machine: &Written<FormatMachine>,
+    machine: &FormatMachine,
+    pairs: &Pairs,
 ) -> Result<Option<Record>, OutOfMemory>
-    requires { machine.now ≡ format.now.pieces }
+    requires same { machine.now ≡ format.now.pieces }
+    requires written { pairs.now ≡ written (line_machine machine.now) }
     ensures { IfOk result (λ found. MatchOption found
         (HasNoNote format.now)
         (λ rec. (format.now.notes ≡ true) × IsLeastNote format.now.pieces rec)) }
@@ -76,5 +83,5 @@ fn refused_note(
     if !format.notes() {
         return Ok(None);
     }
-    least_note(alloc, machine)
+    least_note(alloc, machine, pairs)
 }

@@ -4,16 +4,12 @@
 mod accepting;
 mod confusion;
 pub mod laws;
-mod limits;
+mod meaning;
 mod note;
 mod reader;
 mod refused;
-mod written_machine;
 
 pub use accepting::compile;
-pub use limits::SIZE;
+pub use lf_limits::MOST_SIZE;
 pub use reader::Reader;
 pub use refused::{CompileRefused, Confusion, Refused};
-
-#[cfg(test)]
-mod tests;

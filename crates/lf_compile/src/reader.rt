@@ -3,7 +3,7 @@ ghost use Rattle.lf_format.specs.Lines.{IsReadable, PrintsNone};
 ghost use Rattle.lf_compile.specs.Accepted.{IsAccepted};
 ghost use Rattle.lf_compile.specs.Confused.{IsOnlyRecord};
 
-use crate::written_machine::{decode, means_records};
+use crate::meaning::{decode, has_runs};
 use lf_core::{OutOfMemory, Record};
 use lf_format::Format;
 use lf_machine::FormatMachine;
@@ -77,7 +77,7 @@ fn read_line(
         (PrintsNone machine.now line.now)
         (λ rec. IsOnlyRecord machine.now line.now rec)) }
 {
-    means_records(machine);
+    has_runs(machine);
     match SetReader::run(alloc, machine, line)? {
         None => Ok(None),
         Some(run) => Ok(Some(decode(machine, &run)?)),

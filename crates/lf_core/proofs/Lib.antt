@@ -1,4 +1,3 @@
 pub mod Bits
-pub mod Accepts
 pub mod Members
-pub mod WrittenLaws
+pub mod Agree

@@ -4,6 +4,7 @@
 mod bytes;
 mod class;
 mod domain;
+mod laws;
 mod marked;
 mod memory;
 mod records;
@@ -14,12 +15,10 @@ mod values;
 pub use bytes::Bytes;
 pub use class::Class;
 pub use domain::Domain;
+pub use laws::classes;
 pub use marked::{Marked, Move};
 pub use memory::OutOfMemory;
 pub use records::Record;
 pub use runs::Run;
 pub use texts::Str;
 pub use values::{Moment, Value};
-
-#[cfg(test)]
-mod tests;

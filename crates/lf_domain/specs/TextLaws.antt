@@ -2,7 +2,8 @@
 use Rattle.std.proofs.Common.{◌≡◌, ℕ, ◌+◌, ◌<◌, ◌≤◌, List, [], ◌∷◌, length, Option, None, Some, Bool, true, cond, ltb, ◌==◌, min, arith, refl, ap, ◌∙◌}
 use Rattle.std.proofs.lemmas.Bool.Decides.{nat_tests}
 use Rattle.std.proofs.lemmas.List.Elements.{All-nil, All-cons, All-head, All-tail}
-use Rattle.lf_core.proofs.Accepts.{accepts-step, accepts-first, guarded, guarded_some}
+use Rattle.std.proofs.lemmas.Option.{cond_some}
+use Rattle.lf_core.specs.AcceptsLaws.{accepts-step, accepts-first, guarded}
 use Rattle.lf_core.specs.Class.{is_letter}
 use Rattle.lf_core.specs.Domain.{IsDomain, LetterMachine, accepts}
 use Rattle.lf_core.specs.declared.class.Class.{Class}
@@ -50,7 +51,7 @@ module _ (set : Class) (least most : ℕ) where
   bounded_sound (c ∷ cs) point h a =
       let f = accepts-first next ends point c cs a in
       let g = guarded (is_letter set c) (cond (ltb point most) (Some (point + 1)) None) f.0 f.1 in
-      let k = guarded_some (ltb point most) (point + 1) f.0 g.1 in
+      let k = cond_some (ltb point most) (point + 1) f.0 g.1 in
       let k2 : point + 1 ≤ most = grind (arith, nat_tests, k.0) in
       let r : AllIn set cs × (least ≤ (point + 1) + length cs) × ((point + 1) + length cs ≤ most) = bounded_sound cs (point + 1) k2 (rw (← k.1) at f.2) in
       (All-cons (λ letter. is_letter set letter ≡ true) c cs g.0 r.0, omega (arith, r.1), omega (arith, r.2))
@@ -72,7 +73,7 @@ module _ (set : Class) (least : ℕ) where
   open_sound [] point h a = (All-nil (λ letter. is_letter set letter ≡ true), grind (arith, nat_tests))
   open_sound (c ∷ cs) point h a =
       let f = accepts-first next_open ends_open point c cs a in
-      let g = guarded_some (is_letter set c) (min (point + 1) least) f.0 f.1 in
+      let g = cond_some (is_letter set c) (min (point + 1) least) f.0 f.1 in
       let r : AllIn set cs × (least ≤ min (point + 1) least + length cs) = open_sound cs (min (point + 1) least) (omega arith) (rw (← g.1) at f.2) in
       (All-cons (λ letter. is_letter set letter ≡ true) c cs g.0 r.0, omega (arith, r.1))
 
@@ -96,11 +97,11 @@ guard_letter set c h = grind (arith, nat_tests)
 
 text_stays : (set : Class) (least : ℕ) (most : Option ℕ) (point letter after : ℕ) → point < (text_machine set least most).count → (text_machine set least most).next point letter ≡ Some after → (letter < 256) × (after < (text_machine set least most).count)
 text_stays set least None point letter after h e =
-    let g = guarded_some (is_letter set letter) (min (point + 1) least) after e in
+    let g = cond_some (is_letter set letter) (min (point + 1) least) after e in
     (guard_letter set letter g.0, omega (arith, g.1))
 text_stays set least (Some most) point letter after h e =
     let g = guarded (is_letter set letter) (cond (ltb point most) (Some (point + 1)) None) after e in
-    let k = guarded_some (ltb point most) (point + 1) after g.1 in
+    let k = cond_some (ltb point most) (point + 1) after g.1 in
     let m : point + 1 ≤ most = grind (arith, nat_tests, k.0) in
     (guard_letter set letter g.0, omega (arith, k.1))
 
@@ -124,7 +125,7 @@ module _ (set : Class) where
   letters_sound [] a = All-nil (λ letter. is_letter set letter ≡ true)
   letters_sound (c ∷ cs) a =
       let f = accepts-first next_query ends_query 1 c cs a in
-      let g = guarded_some (is_letter set c) 1 f.0 f.1 in
+      let g = cond_some (is_letter set c) 1 f.0 f.1 in
       All-cons (λ letter. is_letter set letter ≡ true) c cs g.0 (letters_sound cs (rw (← g.1) at f.2))
 
   letters_complete : (text : List ℕ) → AllIn set text → accepts next_query ends_query 1 text ≡ true
@@ -137,7 +138,7 @@ module _ (set : Class) where
   query_sound [] a = tt
   query_sound (c ∷ cs) a =
       let f = accepts-first next_query ends_query 0 c cs a in
-      let g = guarded_some (c == 63) 1 f.0 f.1 in
+      let g = cond_some (c == 63) 1 f.0 f.1 in
       (grind (arith, nat_tests, g.0), letters_sound cs (rw (← g.1) at f.2))
 
   pub query_complete : (text : List ℕ) → IsQuery set text → accepts next_query ends_query 0 text ≡ true
@@ -148,7 +149,7 @@ module _ (set : Class) where
 
   pub query_stays : (point letter after : ℕ) → point < 2 → next_query point letter ≡ Some after → (letter < 256) × (after < 2)
   query_stays point letter after h e =
-      let g = guarded_some (cond (point == 0) (letter == 63) (is_letter set letter)) 1 after e in
+      let g = cond_some (cond (point == 0) (letter == 63) (is_letter set letter)) 1 after e in
       (grind (arith, nat_tests, g.0), omega (arith, g.1))
 
 pub query_laws : (set : Class) → IsDomain (HoldsQuery set) text_of (query_machine set) 2

@@ -9,7 +9,8 @@ use Rattle.std.proofs.lemmas.List.Elements.{All-nil, All-cons, All-head, All-tai
 use Rattle.std.proofs.lemmas.List.Folds.{Any-from_list_any, list_any_at}
 use Rattle.std.proofs.lemmas.List.Sums.{sum_by-cons}
 use Rattle.std.proofs.lemmas.Slice.Eq.{bytes_eq-Decides, starts_is}
-use Rattle.lf_core.proofs.Accepts.{accepts-step, accepts-first, guarded, guarded_some}
+use Rattle.std.proofs.lemmas.Option.{cond_some}
+use Rattle.lf_core.specs.AcceptsLaws.{accepts-step, accepts-first, guarded}
 use Rattle.lf_core.specs.Domain.{IsDomain, accepts}
 use Rattle.lf_domain.specs.Texts.{text_of}
 use Rattle.lf_domain.specs.TextLaws.{domain_of_texts}
@@ -121,7 +122,7 @@ module _ (words : List (List ℕ)) where
   next_came letters c after b h =
       let front = prefix_at words (point_of words letters) in
       let g = guarded (ltb c 256) (point_if words (front ++ c ∷ [])) after h in
-      let k = guarded_some (is_prefix words (front ++ c ∷ [])) (point_of words (front ++ c ∷ [])) after g.1 in
+      let k = cond_some (is_prefix words (front ++ c ∷ [])) (point_of words (front ++ c ∷ [])) after g.1 in
       let l = subst (λ (f : List ℕ). (is_prefix words (f ++ c ∷ []) ≡ true) × (point_of words (f ++ c ∷ []) ≡ after)) (prefix_at-point_of words letters b) k in
       (grind (arith, nat_tests, g.0), l.0, l.1)
 
@@ -155,7 +156,7 @@ module _ (words : List (List ℕ)) where
   machine_stays point letter after l h =
       let front = prefix_at words point ++ letter ∷ [] in
       let g = guarded (ltb letter 256) (point_if words front) after h in
-      let k = guarded_some (is_prefix words front) (point_of words front) after g.1 in
+      let k = cond_some (is_prefix words front) (point_of words front) after g.1 in
       (grind (arith, nat_tests, g.0), omega (arith, k.1, point_of-most words front (inl k.0)))
 
 pub word_laws : (words : List (List ℕ)) → IsDomain (HoldsWord words) text_of (word_machine words) (letter_count words + 1)

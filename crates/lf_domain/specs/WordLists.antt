@@ -5,6 +5,7 @@ use Rattle.std.specs.Str.{bytes_eq}
 use Rattle.lf_core.specs.Domain.{LetterMachine}
 use Rattle.lf_core.specs.declared.values.Value.{Value}
 use Rattle.lf_domain.specs.Texts.{IsText}
+use Rattle.lf_limits.specs.Limits.{most_list_bytes}
 
 -- how many letters the words have together
 abbrev pub letter_count : List (List ℕ) → ℕ
@@ -13,7 +14,7 @@ letter_count words = sum_by length words
 -- What a list of words keeps: no two are equal, and they have at most a million letters together.
 pub record IsWordList (words : List (List ℕ)) : Type 0 where
   pub apart : AllPairs (λ one other. one ≢ other) words
-  pub few : letter_count words ≤ 1000000
+  pub few : letter_count words ≤ most_list_bytes
 
 -- A word of the list, in bytes.
 abbrev pub IsWordOf : List (List ℕ) → List ℕ → Type 0

@@ -12,6 +12,3 @@ pub use query_text::QueryText;
 pub use text_set::TextSet;
 pub use word_list::WordList;
 pub use words::Words;
-
-#[cfg(test)]
-mod text_tests;

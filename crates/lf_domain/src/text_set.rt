@@ -1,4 +1,5 @@
 ghost use Rattle.std.specs.Prelude.{◌≡◌, ℕ, ◌+◌, ◌≤◌, IsTrue, ◌↔◌, length};
+ghost use Rattle.lf_limits.specs.Limits.{most_length};
 ghost use Rattle.std.specs.Option.{ForSome};
 ghost use Rattle.lf_domain.specs.Texts.{HoldsText, IsSized, text_of, text_machine, top_point};
 
@@ -12,8 +13,8 @@ pub struct TextSet {
     pub class: Class,
     pub min: u32,
     pub max: Option<u32>,
-    ghost min_bounded: { min ≤ 99999 },
-    ghost max_bounded: { ForSome max (λ most. most ≤ 99999) },
+    ghost min_bounded: { min ≤ most_length },
+    ghost max_bounded: { ForSome max (λ most. most ≤ most_length) },
 }
 
 impl Domain for TextSet {

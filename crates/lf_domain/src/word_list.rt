@@ -1,4 +1,5 @@
 ghost use Rattle.std.specs.Prelude.{◌≡◌, ◌+◌, ◌<◌, ◌≤◌, ◌↔◌, [], ◌∷◌, ◌++◌, length, slice_index_or, Contains, IsTrue, IfOk, OnOk, OnErr};
+ghost use Rattle.lf_limits.specs.Limits.{most_list_bytes};
 ghost use Rattle.lf_domain.specs.WordLists.{letter_count, IsWordList};
 
 use lf_core::{Bytes, OutOfMemory};
@@ -46,7 +47,7 @@ impl WordList {
     /// How many letters the words have together.
     pub fn letter_count(&self) -> u32
         ensures exact { result ≡ letter_count self.now }
-        ensures few { result ≤ 1000000 }
+        ensures few { result ≤ most_list_bytes }
     {
         let mut count = 0;
         for word in &self.words {
@@ -80,7 +81,7 @@ impl WordList {
     /// Adds the word at the end.
     pub fn push(&mut self, word: &[u8]) -> Result<(), OutOfMemory>
         requires new { ¬ Contains self.old word.now }
-        requires room { letter_count self.old + length word.now ≤ 1000000 }
+        requires room { letter_count self.old + length word.now ≤ most_list_bytes }
         ensures ok { OnOk result (self.new ≡ self.old ++ word.now ∷ []) }
         ensures err { OnErr result (self.new ≡ self.old) }
     {

@@ -1,4 +1,5 @@
 ghost use Rattle.std.specs.Prelude.{◌≡◌, ◌+◌, ◌≤◌, ◌∷◌, [], ◌++◌, nat_eq, IsTrue, ◌↔◌, IfOk};
+ghost use Rattle.lf_limits.specs.Limits.{most_list_bytes};
 ghost use Rattle.std.specs.List.{starts_with};
 ghost use Rattle.lf_domain.specs.Texts.{text_of};
 ghost use Rattle.lf_domain.specs.WordLists.{letter_count, is_word, HoldsWord, IsWordOf, point_if, prefix_at as prefix_of, word_machine};
@@ -103,7 +104,7 @@ fn prefix_at(words: &[Bytes], point: u32) -> &[u8]
 
 /// The point of the prefix with one more letter, where some word begins so.
 fn point_after(words: &[Bytes], prefix: &[u8], letter: u8) -> Option<u32>
-    requires { letter_count words.now ≤ 1000000 }
+    requires { letter_count words.now ≤ most_list_bytes }
     ensures { result ≡ point_if words.now (prefix.now ++ letter ∷ []) }
 {
     let mut before = 0;

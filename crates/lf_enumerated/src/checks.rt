@@ -4,9 +4,10 @@ use crate::orders::{record_cmp, run_cmp};
 use crate::records::{line_of, lines_of, texts_of};
 use crate::search::{Told, found_in, runs_over};
 use crate::shapes::{Row, format_of};
-use lf_compile::{Confusion, Refused, SIZE, compile};
+use lf_compile::{Confusion, Refused, compile};
 use lf_core::{Bytes, Record};
 use lf_format::Format;
+use lf_limits::MOST_SIZE;
 use lf_machine::FormatMachine;
 use std::alloc::Global;
 use std::cmp::Ordering;
@@ -26,6 +27,9 @@ struct Seen {
     count: usize,
     confused: Option<Bytes>,
 }
+
+/// Threads can share the value.
+fn shared<T: Send + Sync>(_value: &T) {}
 
 fn expect(is: bool, what: &'static str) -> Result<(), Fail> {
     if is {
@@ -140,7 +144,10 @@ fn check_confusion(
 /// The format is accepted where no line has two records, and else refused for the first such line.
 fn check_answer(alloc: Global, parts: &Parts, least: Option<&[u8]>) -> Result<(), Fail> {
     match (compile(alloc, parts.format.copy()?), least) {
-        (Ok(_), None) => Ok(()),
+        (Ok(reader), None) => {
+            shared(&reader);
+            Ok(())
+        }
         (Err(refused), Some(line)) => match &refused.cause {
             Refused::Ambiguous(found) => check_confusion(alloc, parts, found, line),
             _ => Err("another cause".into()),
@@ -161,10 +168,11 @@ pub(crate) fn check_format(
     least: Option<&str>,
 ) -> Result<(), Fail> {
     let format = format_of(alloc, rows, between)?;
-    if SIZE < format.size() {
+    if MOST_SIZE < format.size() {
         return Err("a large format".into());
     }
     let machine = FormatMachine::build(alloc, &format)?;
+    shared(&machine);
     let texts = texts_of(alloc, bytes.as_bytes(), most)?;
     let printed = lines_of(alloc, &format, texts.as_slice(), most)?;
     let parts = Parts {

@@ -5,9 +5,6 @@ pub mod Plain
 pub mod Apache
 pub mod Nginx
 pub mod HaProxy
-pub mod Prefixes
-pub mod ShapeLaws
-pub mod PlainLaws
-pub mod ApacheLaws
-pub mod NginxLaws
-pub mod HaProxyLaws
+pub mod CodeTests
+pub mod CodeLaws
+pub mod Codings

@@ -1,5 +1,6 @@
 ghost use Rattle.lf_escape.specs.Codes.{byte_takes};
 ghost use Rattle.lf_escape.specs.Apache.{apache_word};
+ghost use Rattle.lf_escape.specs.CodeLaws.{apache_code};
 
 use crate::code::{Apart, Code};
 use crate::escapes::{Case, backslash_hex, backslashed};
@@ -10,13 +11,11 @@ use crate::word::Word;
 pub struct ApacheHex;
 
 impl Code for ApacheHex {
-    ghost use Rattle.lf_escape.specs.ApacheLaws.{apache_laws};
-
     ghost can_take = { λ _. byte_takes };
 
     ghost word = { λ _. apache_word };
 
-    ghost laws = { λ _. apache_laws };
+    ghost laws = { λ _. apache_code.laws };
 
     fn takes(&self, _letter: u8) -> bool {
         true
@@ -38,7 +37,5 @@ impl Code for ApacheHex {
 }
 
 impl Apart for ApacheHex {
-    ghost use Rattle.lf_escape.specs.ApacheLaws.{apache_apart};
-
-    ghost apart = { λ _. apache_apart };
+    ghost apart = { λ _. apache_code.apart };
 }

@@ -1,5 +1,6 @@
 ghost use Rattle.lf_escape.specs.Codes.{line_takes};
 ghost use Rattle.lf_escape.specs.Plain.{doubled_word};
+ghost use Rattle.lf_escape.specs.CodeLaws.{doubled_code};
 
 use crate::code::{Apart, Code};
 use crate::word::Word;
@@ -9,13 +10,11 @@ use crate::word::Word;
 pub struct Doubled;
 
 impl Code for Doubled {
-    ghost use Rattle.lf_escape.specs.PlainLaws.{doubled_laws};
-
     ghost can_take = { λ _. line_takes };
 
     ghost word = { λ _. doubled_word };
 
-    ghost laws = { λ _. doubled_laws };
+    ghost laws = { λ _. doubled_code.laws };
 
     fn takes(&self, letter: u8) -> bool {
         letter != b'\n'
@@ -30,7 +29,5 @@ impl Code for Doubled {
 }
 
 impl Apart for Doubled {
-    ghost use Rattle.lf_escape.specs.PlainLaws.{doubled_apart};
-
-    ghost apart = { λ _. doubled_apart };
+    ghost apart = { λ _. doubled_code.apart };
 }

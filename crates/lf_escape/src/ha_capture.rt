@@ -1,5 +1,6 @@
 ghost use Rattle.lf_escape.specs.Codes.{byte_takes};
 ghost use Rattle.lf_escape.specs.HaProxy.{capture_word};
+ghost use Rattle.lf_escape.specs.CodeLaws.{capture_code};
 
 use crate::code::{Apart, Code};
 use crate::escapes::hash_hex;
@@ -11,13 +12,11 @@ use crate::word::Word;
 pub struct HaCapture;
 
 impl Code for HaCapture {
-    ghost use Rattle.lf_escape.specs.HaProxyLaws.{capture_laws};
-
     ghost can_take = { λ _. byte_takes };
 
     ghost word = { λ _. capture_word };
 
-    ghost laws = { λ _. capture_laws };
+    ghost laws = { λ _. capture_code.laws };
 
     fn takes(&self, _letter: u8) -> bool {
         true
@@ -33,7 +32,5 @@ impl Code for HaCapture {
 }
 
 impl Apart for HaCapture {
-    ghost use Rattle.lf_escape.specs.HaProxyLaws.{capture_apart};
-
-    ghost apart = { λ _. capture_apart };
+    ghost apart = { λ _. capture_code.apart };
 }

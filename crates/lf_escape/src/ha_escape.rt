@@ -1,5 +1,6 @@
 ghost use Rattle.lf_escape.specs.Codes.{line_takes};
 ghost use Rattle.lf_escape.specs.HaProxy.{escape_word};
+ghost use Rattle.lf_escape.specs.CodeLaws.{escape_code};
 
 use crate::code::{Apart, Code};
 use crate::escapes::backslashed;
@@ -10,13 +11,11 @@ use crate::word::Word;
 pub struct HaEscape;
 
 impl Code for HaEscape {
-    ghost use Rattle.lf_escape.specs.HaProxyLaws.{escape_laws};
-
     ghost can_take = { λ _. line_takes };
 
     ghost word = { λ _. escape_word };
 
-    ghost laws = { λ _. escape_laws };
+    ghost laws = { λ _. escape_code.laws };
 
     fn takes(&self, letter: u8) -> bool {
         letter != b'\n'
@@ -31,7 +30,5 @@ impl Code for HaEscape {
 }
 
 impl Apart for HaEscape {
-    ghost use Rattle.lf_escape.specs.HaProxyLaws.{escape_apart};
-
-    ghost apart = { λ _. escape_apart };
+    ghost apart = { λ _. escape_code.apart };
 }

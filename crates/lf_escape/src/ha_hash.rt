@@ -1,5 +1,6 @@
 ghost use Rattle.lf_escape.specs.Codes.{byte_takes};
 ghost use Rattle.lf_escape.specs.HaProxy.{hash_word};
+ghost use Rattle.lf_escape.specs.CodeLaws.{hash_code};
 
 use crate::code::{Apart, Code};
 use crate::escapes::{hash_hex, is_printable};
@@ -10,13 +11,11 @@ use crate::word::Word;
 pub struct HaHash;
 
 impl Code for HaHash {
-    ghost use Rattle.lf_escape.specs.HaProxyLaws.{hash_laws};
-
     ghost can_take = { λ _. byte_takes };
 
     ghost word = { λ _. hash_word };
 
-    ghost laws = { λ _. hash_laws };
+    ghost laws = { λ _. hash_code.laws };
 
     fn takes(&self, _letter: u8) -> bool {
         true
@@ -31,7 +30,5 @@ impl Code for HaHash {
 }
 
 impl Apart for HaHash {
-    ghost use Rattle.lf_escape.specs.HaProxyLaws.{hash_apart};
-
-    ghost apart = { λ _. hash_apart };
+    ghost apart = { λ _. hash_code.apart };
 }

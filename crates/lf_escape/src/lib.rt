@@ -3,6 +3,7 @@
 
 mod apache_hex;
 mod code;
+mod coding;
 mod doubled;
 mod escapes;
 mod ha_capture;
@@ -16,6 +17,7 @@ mod word;
 
 pub use apache_hex::ApacheHex;
 pub use code::{Apart, Code};
+pub use coding::Coding;
 pub use doubled::Doubled;
 pub use ha_capture::HaCapture;
 pub use ha_escape::HaEscape;
@@ -25,6 +27,3 @@ pub use nginx_json::NginxJson;
 pub use plus_space::PlusSpace;
 pub use raw::Raw;
 pub use word::Word;
-
-#[cfg(test)]
-mod tests;

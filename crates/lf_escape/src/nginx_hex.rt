@@ -1,5 +1,6 @@
 ghost use Rattle.lf_escape.specs.Codes.{byte_takes};
 ghost use Rattle.lf_escape.specs.Nginx.{nginx_word};
+ghost use Rattle.lf_escape.specs.CodeLaws.{nginx_code};
 
 use crate::code::{Apart, Code};
 use crate::escapes::{Case, backslash_hex, is_printable};
@@ -10,13 +11,11 @@ use crate::word::Word;
 pub struct NginxHex;
 
 impl Code for NginxHex {
-    ghost use Rattle.lf_escape.specs.NginxLaws.{nginx_laws};
-
     ghost can_take = { λ _. byte_takes };
 
     ghost word = { λ _. nginx_word };
 
-    ghost laws = { λ _. nginx_laws };
+    ghost laws = { λ _. nginx_code.laws };
 
     fn takes(&self, _letter: u8) -> bool {
         true
@@ -31,7 +30,5 @@ impl Code for NginxHex {
 }
 
 impl Apart for NginxHex {
-    ghost use Rattle.lf_escape.specs.NginxLaws.{nginx_apart};
-
-    ghost apart = { λ _. nginx_apart };
+    ghost apart = { λ _. nginx_code.apart };
 }

@@ -1,5 +1,6 @@
 ghost use Rattle.lf_escape.specs.Codes.{byte_takes};
 ghost use Rattle.lf_escape.specs.Nginx.{json_word};
+ghost use Rattle.lf_escape.specs.CodeLaws.{json_code};
 
 use crate::code::{Apart, Code};
 use crate::escapes::{Case, backslashed, high_digit, low_digit};
@@ -10,13 +11,11 @@ use crate::word::Word;
 pub struct NginxJson;
 
 impl Code for NginxJson {
-    ghost use Rattle.lf_escape.specs.NginxLaws.{json_laws};
-
     ghost can_take = { λ _. byte_takes };
 
     ghost word = { λ _. json_word };
 
-    ghost laws = { λ _. json_laws };
+    ghost laws = { λ _. json_code.laws };
 
     fn takes(&self, _letter: u8) -> bool {
         true
@@ -44,7 +43,5 @@ impl Code for NginxJson {
 }
 
 impl Apart for NginxJson {
-    ghost use Rattle.lf_escape.specs.NginxLaws.{json_apart};
-
-    ghost apart = { λ _. json_apart };
+    ghost apart = { λ _. json_code.apart };
 }

@@ -9,13 +9,13 @@ use crate::word::Word;
 pub struct PlusSpace;
 
 impl Code for PlusSpace {
-    ghost use Rattle.lf_escape.specs.PlainLaws.{plus_laws};
+    ghost use Rattle.lf_escape.specs.CodeLaws.{plus_code};
 
     ghost can_take = { λ _. line_takes };
 
     ghost word = { λ _. plus_word };
 
-    ghost laws = { λ _. plus_laws };
+    ghost laws = { λ _. plus_code };
 
     fn takes(&self, letter: u8) -> bool {
         letter != b'\n'

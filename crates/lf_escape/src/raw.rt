@@ -1,5 +1,6 @@
 ghost use Rattle.lf_escape.specs.Codes.{line_takes};
 ghost use Rattle.lf_escape.specs.Plain.{raw_word};
+ghost use Rattle.lf_escape.specs.CodeLaws.{raw_code};
 
 use crate::code::{Apart, Code};
 use crate::word::Word;
@@ -9,13 +10,11 @@ use crate::word::Word;
 pub struct Raw;
 
 impl Code for Raw {
-    ghost use Rattle.lf_escape.specs.PlainLaws.{raw_laws};
-
     ghost can_take = { λ _. line_takes };
 
     ghost word = { λ _. raw_word };
 
-    ghost laws = { λ _. raw_laws };
+    ghost laws = { λ _. raw_code.laws };
 
     fn takes(&self, letter: u8) -> bool {
         letter != b'\n'
@@ -27,7 +26,5 @@ impl Code for Raw {
 }
 
 impl Apart for Raw {
-    ghost use Rattle.lf_escape.specs.PlainLaws.{raw_apart};
-
-    ghost apart = { λ _. raw_apart };
+    ghost apart = { λ _. raw_code.apart };
 }

@@ -2,9 +2,9 @@
 use Rattle.std.proofs.Common.{◌≡◌, ℕ, List, [], ◌∷◌, refl, ◌∙◌, ap}
 use Rattle.lf_escape.specs.Codes.{coded}
 use Rattle.lf_escape.specs.Plain.{raw_word}
-use Rattle.lf_format.specs.declared.kind.Coding.{Coding}
-use Rattle.lf_format.specs.declared.kind.Coding.TheVariants as coding
-use Rattle.lf_format.specs.Codings.{coding_word}
+use Rattle.lf_escape.specs.declared.coding.Coding.{Coding}
+use Rattle.lf_escape.specs.declared.coding.Coding.TheVariants as coding
+use Rattle.lf_escape.specs.Codings.{coding_word}
 
 coded-raw : (letters : List ℕ) → coded raw_word letters ≡ letters
 coded-raw [] = refl

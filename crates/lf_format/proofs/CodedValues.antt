@@ -4,8 +4,8 @@ use Rattle.lf_core.specs.declared.values.Value.{Value}
 use Rattle.lf_core.specs.declared.values.Value.TheVariants.{Text}
 use Rattle.lf_format.specs.declared.kind.Kind.{Kind}
 use Rattle.lf_format.specs.declared.kind.Kind.TheVariants as kind
-use Rattle.lf_format.specs.declared.kind.Coding.{Coding}
-use Rattle.lf_format.specs.declared.kind.Coding.TheVariants.{Raw}
+use Rattle.lf_escape.specs.declared.coding.Coding.{Coding}
+use Rattle.lf_escape.specs.declared.coding.Coding.TheVariants.{Raw}
 use Rattle.lf_format.specs.Kinds.{HoldsKind, plain_text}
 use Rattle.lf_format.specs.Keeps.{FitsCode}
 

@@ -1,16 +1,13 @@
 -- A domain with a value that isn't taken for absence.
-use Rattle.std.proofs.Common.{◌≡◌, ℕ, List, [], ◌∷◌, Bool, true, false, refl, sym, ap, subst, ◌∙◌, arith}
+use Rattle.std.proofs.Common.{◌≡◌, ℕ, List, Bool, true, false, refl, sym, ap, subst, ◌∙◌, arith}
 use Rattle.std.specs.Prelude.{ℤ, pos, ◌≤ℤ◌, IsTrue, ◌↔◌, FitsSigned}
 use Rattle.std.proofs.Common.{of_z, to_z}
 use Rattle.std.specs.Int.{w64}
 use Rattle.std.specs.Int.Signed.{≤ℤ_refl}
 use Rattle.std.proofs.lemmas.Int.{ints, to_z-of_z}
-use Rattle.lf_core.specs.declared.class.Class.{Class}
 use Rattle.lf_core.specs.declared.values.Value.TheVariants.{Num, Text}
 use Rattle.lf_core.specs.declared.values.Value.{Value}
-use Rattle.std.proofs.lemmas.List.Elements.{All-nil}
-use Rattle.lf_core.specs.Class.{is_letter}
-use Rattle.lf_domain.specs.Texts.{IsSized, AllIn}
+use Rattle.lf_domain.specs.Texts.{IsSized}
 use Rattle.lf_domain.specs.declared.text_set.TextSet.{TextSet}
 use Rattle.lf_domain.specs.declared.query_text.QueryText.{QueryText}
 use Rattle.lf_domain.specs.declared.words.Words.{Words}
@@ -22,7 +19,8 @@ use Rattle.lf_format.specs.declared.slot.Absent.TheVariants as absent
 use Rattle.lf_format.specs.Kinds.{HoldsKind, plain_text}
 use Rattle.lf_format.specs.Slots.{IsNotAbsence, HasPresent}
 use Rattle.lf_format.specs.Absence.{prints_zero_as_dash}
-use Rattle.lf_format.proofs.PlainTexts.{number-some, number-dash, zero-dash}
+use Rattle.lf_format.specs.HeldLaws.{query_present}
+use Rattle.lf_format.specs.PlainTextLaws.{number-some, number-dash, zero-dash}
 
 -- The number is the greatest that the domain may have.
 abbrev pub IsTop : Kind → ℤ → Type 0
@@ -127,15 +125,5 @@ words-decide k d a quoted test is tells = subst (λ (x : Kind). IsTrue test ↔ 
       tells.1 (found.0, h, p)),
 )
 
-mark-alone : (class : Class) → AllIn class []
-mark-alone class = All-nil (λ letter. is_letter class letter ≡ true)
-
-query-present : (d : QueryText) (a : Absent) (quoted : Bool) → HasPresent (kind.Query d) a quoted
-query-present d absent.No quoted = (Text [], tt, tt)
-query-present d absent.DashTwo quoted = (Text [], tt, tt)
-query-present d absent.Dash true = (Text [], tt, tt)
-query-present d absent.Dash false = (Text [], tt, λ e. cc)
-query-present d absent.Blank quoted = (Text (63 ∷ []), (refl, mark-alone d.class), λ e. cc)
-
 pub query-some : (k : Kind) (d : QueryText) (a : Absent) (quoted : Bool) → k ≡ kind.Query d → HasPresent k a quoted
-query-some k d a quoted is = subst (λ (x : Kind). HasPresent x a quoted) (sym is) (query-present d a quoted)
+query-some k d a quoted is = subst (λ (x : Kind). HasPresent x a quoted) (sym is) (query_present d a quoted)

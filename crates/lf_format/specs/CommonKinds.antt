@@ -6,25 +6,26 @@ use Rattle.lf_core.specs.declared.class.Class.{Class}
 use Rattle.lf_number.specs.declared.padded.Radix.{Radix}
 use Rattle.lf_format.specs.declared.kind.Kind.{Kind}
 use Rattle.lf_format.specs.declared.kind.Kind.TheVariants.{Num, DashZero, Fixed3, Padded, Text}
+use Rattle.lf_limits.specs.Limits.{most_length}
 
-pub none_fits : ForSome {T = ℕ} None (λ most. most ≤ 99999)
+pub none_fits : ForSome {T = ℕ} None (λ most. most ≤ most_length)
 none_fits = λ x e. absurd (cc)
 
-pub zero_fits : 0 ≤ 99999
+pub zero_fits : 0 ≤ most_length
 zero_fits = omega arith
 
-pub one_fits : 1 ≤ 99999
+pub one_fits : 1 ≤ most_length
 one_fits = omega arith
 
-pub some_fits : (max : ℕ) → max ≤ 99999 → ForSome {T = ℕ} (Some max) (λ most. most ≤ 99999)
+pub some_fits : (max : ℕ) → max ≤ most_length → ForSome {T = ℕ} (Some max) (λ most. most ≤ most_length)
 some_fits max fits = λ x e. let same : max ≡ x = cc in omega (arith, fits, same)
 
 -- so many letters of the class, or more
-abbrev pub texts : Class → (min : ℕ) → min ≤ 99999 → Kind
+abbrev pub texts : Class → (min : ℕ) → min ≤ most_length → Kind
 texts set min fits = Text (record { class = set; min = min; max = None; min_bounded = fits; max_bounded = none_fits })
 
 -- so many letters of the class, `min` to `max` of them
-abbrev pub bounded_texts : Class → (min max : ℕ) → min ≤ 99999 → max ≤ 99999 → Kind
+abbrev pub bounded_texts : Class → (min max : ℕ) → min ≤ most_length → max ≤ most_length → Kind
 bounded_texts set min max least most = Text (record { class = set; min = min; max = Some max; min_bounded = least; max_bounded = some_fits max most })
 
 -- the whole numbers between two, these two counted

@@ -4,14 +4,15 @@ use Rattle.std.specs.List.{list_all}
 use Rattle.lf_core.specs.declared.values.Value.{Value}
 use Rattle.lf_format.specs.declared.kind.Kind.{Kind}
 use Rattle.lf_format.specs.declared.kind.Kind.TheVariants as kind
-use Rattle.lf_format.specs.declared.kind.Coding.{Coding}
-use Rattle.lf_format.specs.declared.kind.Coding.TheVariants.{Raw}
+use Rattle.lf_escape.specs.declared.coding.Coding.{Coding}
+use Rattle.lf_escape.specs.declared.coding.Coding.TheVariants.{Raw}
 use Rattle.lf_format.specs.declared.slot.Slot.{Slot as OneSlot}
 use Rattle.lf_format.specs.declared.format.Piece.{Piece}
 use Rattle.lf_format.specs.declared.format.Piece.TheVariants.{Literal, Slot}
 use Rattle.lf_format.specs.Kinds.{HoldsKind, plain_text}
-use Rattle.lf_format.specs.Codings.{coding_takes}
+use Rattle.lf_escape.specs.Codings.{coding_takes}
 use Rattle.lf_format.specs.Slots.{Holds}
+use Rattle.lf_limits.specs.Limits.{most_slots, most_literal_bytes}
 
 -- Only texts have a code of their own.
 abbrev pub FitsCode : Kind → Coding → Type 0
@@ -67,10 +68,10 @@ literal_bytes [] = 0
 literal_bytes (Literal text ∷ pieces) = length text + literal_bytes pieces
 literal_bytes (Slot slot ∷ pieces) = literal_bytes pieces
 
--- What a format keeps: at least one piece, at most 128 slots, and literals of at most 1,048,576 bytes together.
+-- What a format keeps: at least one piece, at most `most_slots` slots, and literals of at most `most_literal_bytes` bytes together.
 pub record KeepsFormat (pieces : List Piece) : Type 0 where
   pub each : EachKept pieces
   pub joined : AreJoined pieces
   pub some : pieces ≢ []
-  pub few : length (slots_in pieces) ≤ 128
-  pub short : literal_bytes pieces ≤ 1048576
+  pub few : length (slots_in pieces) ≤ most_slots
+  pub short : literal_bytes pieces ≤ most_literal_bytes

@@ -1,26 +1,9 @@
 -- The size of a format, which bounds the points of its machine.
 use Rattle.std.specs.Prelude.{ℕ, ◌+◌, ◌*◌, List, [], ◌∷◌, length}
-use Rattle.lf_escape.specs.Plain.{raw_prefixes, plus_prefixes, doubled_prefixes}
-use Rattle.lf_escape.specs.Apache.{apache_prefixes}
-use Rattle.lf_escape.specs.Nginx.{nginx_prefixes, json_prefixes}
-use Rattle.lf_escape.specs.HaProxy.{hash_prefixes, capture_prefixes, escape_prefixes}
+use Rattle.lf_escape.specs.Codings.{prefixes_of}
 use Rattle.lf_format.specs.Kinds.{kind_size}
-use Rattle.lf_format.specs.declared.kind.Coding.{Coding}
-use Rattle.lf_format.specs.declared.kind.Coding.TheVariants.{Raw, ApacheHex, NginxHex, NginxJson, HaHash, HaCapture, HaEscape, PlusSpace, Doubled}
 use Rattle.lf_format.specs.declared.format.Piece.{Piece}
 use Rattle.lf_format.specs.declared.format.Piece.TheVariants.{Literal, Slot}
-
--- How many proper prefixes the words of a code have, the empty one counted.
-abbrev pub prefixes_of : Coding → ℕ
-prefixes_of Raw = raw_prefixes
-prefixes_of ApacheHex = apache_prefixes
-prefixes_of NginxHex = nginx_prefixes
-prefixes_of NginxJson = json_prefixes
-prefixes_of HaHash = hash_prefixes
-prefixes_of HaCapture = capture_prefixes
-prefixes_of HaEscape = escape_prefixes
-prefixes_of PlusSpace = plus_prefixes
-prefixes_of Doubled = doubled_prefixes
 
 -- The size of a piece: a literal's bytes; of a slot its domain's size for each prefix of its code, and three.
 abbrev pub piece_size : Piece → ℕ

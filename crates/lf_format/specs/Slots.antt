@@ -4,7 +4,7 @@ use Rattle.lf_core.specs.declared.values.Value.{Value}
 use Rattle.lf_core.specs.declared.values.Value.TheVariants.{Missing}
 use Rattle.lf_escape.specs.Codes.{coded}
 use Rattle.lf_format.specs.Kinds.{HoldsKind, plain_text}
-use Rattle.lf_format.specs.Codings.{coding_word}
+use Rattle.lf_escape.specs.Codings.{coding_word}
 use Rattle.lf_format.specs.declared.kind.Kind.{Kind}
 use Rattle.lf_format.specs.declared.slot.Slot.{Slot}
 use Rattle.lf_format.specs.declared.slot.Absent.{Absent}

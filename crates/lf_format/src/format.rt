@@ -1,4 +1,5 @@
 ghost use Rattle.std.specs.Prelude.{◌≡◌, ◌-◌, ◌≤◌, ◌++◌, ◌↔◌, length, slice_index_or, IsTrue, IfOk, OnOk, OnErr};
+ghost use Rattle.lf_limits.specs.Limits.{most_slots};
 ghost use Rattle.lf_core.specs.Adds.{AddsFront};
 ghost use Rattle.lf_format.specs.Keeps.{KeepsFormat, slots_in};
 ghost use Rattle.lf_format.specs.Lines.{IsRecordOf, line_text};
@@ -133,7 +134,7 @@ fn copy_pieces(alloc: Global, pieces: &[Piece]) -> Result<Vec<Piece>, OutOfMemor
 }
 
 fn count_slots(pieces: &[Piece]) -> u32
-    requires { length (slots_in pieces.now) ≤ 128 }
+    requires { length (slots_in pieces.now) ≤ most_slots }
     ensures { result ≡ length (slots_in pieces.now) }
 {
     match pieces.split_first() {

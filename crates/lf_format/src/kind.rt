@@ -1,14 +1,11 @@
 ghost use Rattle.std.specs.Prelude.{◌≡◌, ◌≤◌, ◌≤ℤ◌, ℕ, pos, List, IfOk};
+ghost use Rattle.lf_limits.specs.Limits.{most_length};
 ghost use Rattle.lf_core.specs.declared.values.Value.{Value};
 ghost use Rattle.lf_format.specs.Kinds.{value_kind};
 ghost use Rattle.lf_format.specs.CommonKinds.{bounded_texts as bounded_texts_of, dashed as dashed_of, fixed3 as fixed3_of, numbers as numbers_of, padded as padded_of, texts as texts_of};
 
 use lf_core::{Bytes, Class, Domain, OutOfMemory, Value};
 use lf_domain::{DashZero, Fixed3, NumRange, Padded, QueryText, Radix, TextSet, Words};
-use lf_escape::{
-    ApacheHex, Code, Doubled, HaCapture, HaEscape, HaHash, NginxHex, NginxJson, PlusSpace, Raw,
-    Word,
-};
 use lf_time::{ClfTime, HaTime, IsoMillisZ, IsoOffset, W3cClock, W3cDate};
 use std::alloc::Global;
 
@@ -43,8 +40,8 @@ pub enum ValueKind {
 impl Kind {
     /// The texts of `min` or more letters of the class.
     pub fn texts(class: Class, min: u32) -> Kind
-        requires { min ≤ 99999 }
-        ensures { (fits : min ≤ 99999) → result ≡ texts_of class min fits }
+        requires { min ≤ most_length }
+        ensures { (fits : min ≤ most_length) → result ≡ texts_of class min fits }
     {
         Kind::Text(TextSet {
             class,
@@ -55,9 +52,9 @@ impl Kind {
 
     /// The texts of `min` to `max` letters of the class.
     pub fn bounded_texts(class: Class, min: u32, max: u32) -> Kind
-        requires least { min ≤ 99999 }
-        requires most { max ≤ 99999 }
-        ensures { (least : min ≤ 99999) (most : max ≤ 99999) → result ≡ bounded_texts_of class min max least most }
+        requires least { min ≤ most_length }
+        requires most { max ≤ most_length }
+        ensures { (least : min ≤ most_length) (most : max ≤ most_length) → result ≡ bounded_texts_of class min max least most }
     {
         Kind::Text(TextSet {
             class,
@@ -199,57 +196,5 @@ impl Domain for Kind {
 
     fn ends(&self, point: u32) -> bool {
         with_domain!(self, domain => domain.ends(point))
-    }
-}
-
-/// The code in which a slot writes the letters of a plain text.
-#[derive(Clone, Copy, Debug, PartialEq, Eq)]
-pub enum Coding {
-    Raw,
-    ApacheHex,
-    NginxHex,
-    NginxJson,
-    HaHash,
-    HaCapture,
-    HaEscape,
-    PlusSpace,
-    Doubled,
-}
-
-impl Code for Coding {
-    ghost use Rattle.lf_format.specs.Codings.{coding_takes, coding_word, coding_laws};
-
-    ghost can_take = { coding_takes };
-
-    ghost word = { coding_word };
-
-    ghost laws = { coding_laws };
-
-    fn takes(&self, letter: u8) -> bool {
-        match self {
-            Coding::Raw => Raw.takes(letter),
-            Coding::ApacheHex => ApacheHex.takes(letter),
-            Coding::NginxHex => NginxHex.takes(letter),
-            Coding::NginxJson => NginxJson.takes(letter),
-            Coding::HaHash => HaHash.takes(letter),
-            Coding::HaCapture => HaCapture.takes(letter),
-            Coding::HaEscape => HaEscape.takes(letter),
-            Coding::PlusSpace => PlusSpace.takes(letter),
-            Coding::Doubled => Doubled.takes(letter),
-        }
-    }
-
-    fn word_of(&self, letter: u8) -> Word {
-        match self {
-            Coding::Raw => Raw.word_of(letter),
-            Coding::ApacheHex => ApacheHex.word_of(letter),
-            Coding::NginxHex => NginxHex.word_of(letter),
-            Coding::NginxJson => NginxJson.word_of(letter),
-            Coding::HaHash => HaHash.word_of(letter),
-            Coding::HaCapture => HaCapture.word_of(letter),
-            Coding::HaEscape => HaEscape.word_of(letter),
-            Coding::PlusSpace => PlusSpace.word_of(letter),
-            Coding::Doubled => Doubled.word_of(letter),
-        }
     }
 }

@@ -1,11 +1,14 @@
 ghost use Rattle.std.specs.Prelude.{◌≡◌, ◌+◌, ◌*◌, ◌≤◌, length};
+ghost use Rattle.lf_limits.specs.Limits.{most_slots, most_literal_bytes};
 ghost use Rattle.lf_format.specs.Keeps.{slots_in, literal_bytes};
 ghost use Rattle.lf_format.specs.Kinds.{kind_size};
-ghost use Rattle.lf_format.specs.Size.{prefixes_of, pieces_size, size_of};
+ghost use Rattle.lf_escape.specs.Codings.{prefixes_of};
+ghost use Rattle.lf_format.specs.Size.{pieces_size, size_of};
 
 use crate::format::{Format, Piece};
-use crate::kind::{Coding, Kind};
+use crate::kind::Kind;
 use lf_core::Domain;
+use lf_escape::Coding;
 
 impl Format {
     /// A bound on the points of the format's machine, known before the machine is built.
@@ -18,8 +21,8 @@ impl Format {
 
 /// The sizes of the pieces, summed.
 fn sum_sizes(pieces: &[Piece]) -> u64
-    requires few { length (slots_in pieces.now) ≤ 128 }
-    requires short { literal_bytes pieces.now ≤ 1048576 }
+    requires few { length (slots_in pieces.now) ≤ most_slots }
+    requires short { literal_bytes pieces.now ≤ most_literal_bytes }
     ensures exact { result ≡ pieces_size pieces.now }
     ensures most { result ≤ literal_bytes pieces.now + 68719476739 * length (slots_in pieces.now) }
 {

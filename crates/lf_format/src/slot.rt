@@ -3,9 +3,10 @@ ghost use Rattle.lf_format.specs.Keeps.{HoldsSome};
 ghost use Rattle.lf_format.specs.Slots.{Holds, HoldsPresent};
 
 use crate::absence::{holds_missing, is_present};
-use crate::kind::{Coding, Kind};
+use crate::kind::Kind;
 use crate::some::has_present;
 use lf_core::{Domain, OutOfMemory, Str, Value};
+use lf_escape::Coding;
 
 /// How a slot prints that its value is missing: not at all, as `-` (and then no value is printed so),
 /// as `-` beside a value that is printed so, or as nothing.

@@ -2,17 +2,16 @@ ghost use Rattle.std.specs.Prelude.{◌≡◌, ◌++◌, ◌↔◌, IsTrue, true
 ghost use Rattle.lf_core.specs.Adds.{AddsFront};
 ghost use Rattle.lf_core.specs.declared.values.Value.{Value};
 ghost use Rattle.lf_escape.specs.Codes.{coded};
-ghost use Rattle.lf_format.specs.Codings.{coding_takes, coding_word};
+ghost use Rattle.lf_escape.specs.Codings.{coding_takes, coding_word};
 ghost use Rattle.lf_format.specs.Keeps.{KeepsSlot, EachKept};
 ghost use Rattle.lf_format.specs.Kinds.{HoldsKind};
 ghost use Rattle.lf_format.specs.Lines.{IsRecordOf, line_text};
 ghost use Rattle.lf_format.specs.Slots.{Holds, coded_text, in_quotes, missing_text, slot_text};
 
 use crate::format::Piece;
-use crate::kind::Coding;
 use crate::slot::{Absent, Slot};
 use lf_core::{Bytes, Domain, OutOfMemory, Value};
-use lf_escape::Code;
+use lf_escape::{Code, Coding};
 
 /// Appends the words of the letters.
 fn write_words(code: Coding, letters: &[u8], into: &mut Bytes) -> Result<(), OutOfMemory>

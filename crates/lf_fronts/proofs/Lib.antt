@@ -1,1 +1,4 @@
 pub mod FrontLaws
+pub mod ByteLaws
+pub mod ItemBytes
+pub mod KeepLaws

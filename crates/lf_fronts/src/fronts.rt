@@ -1,18 +1,24 @@
-ghost use Rattle.std.specs.Prelude.{◌≡◌, ◌≤◌, ℕ, List, length, IfOk};
-ghost use Rattle.lf_format.specs.Spelling.{AnswersFormat, AnswersFault};
-ghost use Rattle.lf_format.specs.Shape.{Shape};
-ghost use Rattle.lf_format.specs.declared.fault.Cause.{Cause};
-ghost use Rattle.lf_words.specs.declared.command.Front.{Front as OneFront};
-ghost use Rattle.lf_fronts.specs.Fronts.{Spells, IsFaulty, HasOneAnswer};
+//! The text of a format, read by the front that is named.
 
-use lf_format::{Format, FormatFault};
+ghost use Rattle.std.specs.Prelude.{◌≡◌, ◌≤◌, ℕ, List, length, IfOk};
+ghost use Rattle.lf_limits.specs.Limits.{most_text_bytes};
+ghost use Rattle.lf_spelling.specs.Spelling.{AnswersFormat, AnswersFault};
+ghost use Rattle.lf_format.specs.Shape.{Shape};
+ghost use Rattle.lf_spelling.specs.declared.fault.Cause.{Cause};
+ghost use Rattle.lf_words.specs.declared.command.Front.{Front as OneFront};
+ghost use Rattle.std.specs.Str.{IsUtf8};
+ghost use Rattle.lf_fronts.specs.Fronts.{Spells, IsFaulty, HasOneAnswer};
+ghost use Rattle.lf_fronts.specs.Keeps.{IsFormat};
+
+use lf_format::Format;
+use lf_spelling::FormatFault;
 use lf_words::Front;
 use nginx_front::Escape;
 use std::alloc::Global;
 
 /// The format that a text spells in a front's language, or its first fault.
 pub fn parse(alloc: Global, front: Front, text: &str) -> Result<Format, FormatFault>
-    requires { length text.now ≤ 1048576 }
+    requires { length text.now ≤ most_text_bytes }
     // What is answered is so.
     ensures spelled { IfOk result (λ format. Spells front text.now format) }
     ensures faulty { (place : ℕ) (cause : Cause) → result ≡ Err (FormatFault.At place cause) → IsFaulty front text.now place cause }
@@ -47,3 +53,9 @@ pub fn one_answer()
     w3c_front::one_draft_answer();
     w3c_front::one_iis_answer();
 }
+
+/// What a text within the limit spells keeps what a format keeps, and its literals are made of bytes.
+pub fn spelled_keeps()
+    ensures { (front : OneFront) (text : List ℕ) (format : Shape) → IsUtf8 text → length text ≤ most_text_bytes
+        → Spells front text format → IsFormat format }
+{}

@@ -3,7 +3,4 @@
 
 mod fronts;
 
-pub use fronts::{one_answer, parse};
-
-#[cfg(test)]
-mod tests;
+pub use fronts::{one_answer, parse, spelled_keeps};

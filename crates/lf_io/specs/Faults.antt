@@ -13,7 +13,8 @@ one_more n = min (n + 1) LAST
 abbrev pub Rose : ℕ → ℕ → Type 0
 Rose before now = (before < now) ⊎ (now ≡ LAST)
 
--- A count never falls, and a failure is answered only where it rose.
+-- A count never falls, it rose where a failure is answered, and it stays where none is.
 pub record HasCause (before now : ℕ) (failed : Type 0) : Type 0 where
   pub later : before ≤ now
   pub cause : failed → Rose before now
+  pub kept : (failed → ⊥) → now ≡ before

@@ -21,7 +21,7 @@ pub trait Sink {
     /// The bytes so far, where the sink tells them.
     ghost got: { Self → Option (List ℕ) };
 
-    /// A count of faults, which never falls.
+    /// A count of faults. A call that fails raises it, and no other does.
     ghost faults: { Self → ℕ };
 
     /// A push that took `n` bytes took the first ones of the piece.

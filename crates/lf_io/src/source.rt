@@ -15,7 +15,7 @@ pub trait Source {
     /// The bytes that are still to come, where the source tells them.
     ghost left: { Self → Option (List ℕ) };
 
-    /// A count of faults, which never falls.
+    /// A count of faults. A call that fails raises it, and no other does.
     ghost faults: { Self → ℕ };
 
     /// After a pull that took `n` bytes, `into` begins with them.

@@ -7,4 +7,3 @@ pub mod Sorts
 pub mod TimeTexts
 pub mod Printed
 pub mod RoundTrip
-pub mod TestFormats

@@ -12,6 +12,3 @@ mod writing;
 pub use bad_record::BadRecord;
 pub use reading::read_record;
 pub use writing::{write_record, write_text};
-
-#[cfg(test)]
-mod tests;

@@ -1,4 +1,5 @@
 ghost use Rattle.std.specs.Prelude.{◌≡◌, ◌⊎◌, ◌+◌, ◌≤◌, length, map, IfOk, IfErr, OnOk};
+ghost use Rattle.lf_limits.specs.Limits.{most_slots};
 ghost use Rattle.serde_json.specs.View.{view};
 ghost use Rattle.lf_format.specs.Keeps.{slots_in};
 ghost use Rattle.lf_format.specs.Lines.{IsRecordOf};
@@ -37,7 +38,7 @@ fn read_values(
     into: &mut Record,
 ) -> Result<(), BadRecord>
     requires same { length items.now ≡ length (slots_in pieces.now) }
-    requires few { before + length (slots_in pieces.now) ≤ 128 }
+    requires few { before + length (slots_in pieces.now) ≤ most_slots }
     ensures ok { OnOk result (AddsValues into.old into.new (slots_in pieces.now) (map view items.now)) }
     ensures err { IfErr result (λ bad. (bad ≡ BadRecord.OutOfMemory)
         ⊎ IsWrongFrom before (slots_in pieces.now) (map view items.now) bad) }

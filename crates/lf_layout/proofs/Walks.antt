@@ -1,8 +1,8 @@
 -- A walk along places, a letter each.
 use Rattle.std.proofs.Common.{◌≡◌, ℕ, ◌+◌, ◌≤◌, List, [], ◌∷◌, Some, true, sym, arith}
 use Rattle.std.proofs.lemmas.Bool.Decides.{nat_tests}
+use Rattle.std.proofs.lemmas.Bool.{and_parts}
 use Rattle.lf_core.specs.Domain.{accepts}
-use Rattle.lf_layout.specs.Choices.{and_parts}
 use Rattle.lf_layout.specs.Places.{IsPlaced, IsReadableFrom, place_exits, after_place, next_point, is_last, is_byte, all_bytes, is_chained}
 use Rattle.lf_layout.specs.PlaceLaws.{run, accepts-run, entry-first, place-stays}
 use Rattle.lf_layout.specs.declared.place.Place.{Place}

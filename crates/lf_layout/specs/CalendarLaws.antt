@@ -4,7 +4,7 @@ use Rattle.std.specs.Prelude.{ℤ, pos, negsuc, ◌+ℤ◌, ◌-ℤ◌, ◌≤�
 use Rattle.std.proofs.lemmas.Bool.Decides.{nat_tests}
 use Rattle.jiff_core.proofs.SignedLemmas.{signed_arith}
 use Rattle.lf_layout.specs.declared.calendar.CivilDate.{CivilDate}
-use Rattle.lf_layout.specs.Choices.{below}
+use Rattle.lf_core.specs.Choices.{below}
 use Rattle.lf_layout.specs.Calendar.{is_leap, month_length, days_of_months, days_before_year, day_count, day_number, IsDateUpTo, IsDate, next_date, date_after, civil_date, IsDay}
 
 -- 1 for a leap year, and else 0

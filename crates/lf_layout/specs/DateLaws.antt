@@ -1,7 +1,8 @@
 -- The places of a date read the dates of the years 0001 to 9999.
 use Rattle.std.proofs.Common.{◌≡◌, ℕ, ◌+◌, ◌-◌, ◌*◌, ◌/◌, ◌%◌, ◌<◌, ◌≤◌, inl, inr, List, ◌∷◌, ◌++◌, Some, Bool, true, false, cond, ◌&&◌, ◌==◌, leb, refl, sym, ap, ◌∙◌, arith}
 use Rattle.std.proofs.lemmas.Bool.Decides.{nat_tests}
-use Rattle.lf_core.proofs.Accepts.{guarded_some}
+use Rattle.std.proofs.lemmas.Bool.{and_parts, cases_Bool}
+use Rattle.std.proofs.lemmas.Option.{cond_some}
 use Rattle.lf_layout.specs.declared.calendar.CivilDate.{CivilDate}
 use Rattle.lf_layout.specs.Calendar.{is_leap, days_of_month, month_length, IsDate}
 use Rattle.lf_layout.specs.CalendarLaws.{month_length-least}
@@ -9,7 +10,7 @@ use Rattle.lf_layout.specs.Texts.{two, four, month_letter, month_name, iso_date_
 use Rattle.lf_layout.specs.Layouts.{date_text}
 use Rattle.lf_layout.specs.Places.{century_class, is_leap_in, after_year, after_number, after_name, wants_leap, year_places, iso_date_places, named_date_places, date_places}
 use Rattle.lf_layout.specs.PlaceLaws.{run}
-use Rattle.lf_layout.specs.Choices.{bool_cases, and_parts, unwrap}
+use Rattle.lf_core.specs.Choices.{unwrap}
 use Rattle.lf_layout.specs.FieldLaws.{IsField, byte-writes, byte-reads, number-writes, number-reads}
 use Rattle.lf_layout.specs.NameLaws.{name-writes, name-reads}
 use Rattle.lf_layout.specs.declared.layout.DateForm.{DateForm}
@@ -41,7 +42,7 @@ year-from must class n y to e h = (λ m. grind (arith, nat_tests), grind (arith,
 
 year-to : (must class n y : ℕ) → is_leap_in class n ≡ is_leap y → ((class == 0) && (n == 0)) ≡ false → (must ≡ 1 → is_leap y ≡ true) → after_year must class n ≡ Some (leap_code y)
 year-to must class n y e f l =
-    elim (bool_cases (is_leap y)) [
+    elim (cases_Bool (is_leap y)) [
       | inl t ↦ let i : is_leap_in class n ≡ true = e ∙ t in rw (f, i, t) refl
       | inr t ↦
           let i : is_leap_in class n ≡ false = e ∙ t in
@@ -50,7 +51,7 @@ year-to must class n y e f l =
     ]
   where
     not_one : (m : ℕ) → (m ≡ 1 → ⊥) → (m == 1) ≡ false
-    not_one m h = elim (bool_cases (m == 1)) [ inl t ↦ absurd (h (grind (arith, nat_tests))) | inr f ↦ f ]
+    not_one m h = elim (cases_Bool (m == 1)) [ inl t ↦ absurd (h (grind (arith, nat_tests))) | inr f ↦ f ]
 
 year-some : (must c n to : ℕ) → after_year must (century_class c) n ≡ Some to → 0 < 100 * c + n
 year-some must c n to h = grind (arith, nat_tests)
@@ -112,7 +113,7 @@ month-goes y m h k = rw (is_within 1 m 12 h k, code-leap y) refl
 
 month-went : (y m to : ℕ) → after_number Month (leap_code y) m ≡ Some to → (1 ≤ m) × (m ≤ 12) × (month_length y m - 28 ≡ to)
 month-went y m to h =
-    let g = guarded_some (leb 1 m && leb m 12) (days_of_month (leap_code y == 1) m - 28) to h in
+    let g = cond_some (leb 1 m && leb m 12) (days_of_month (leap_code y == 1) m - 28) to h in
     let w = within 1 m 12 g.0 in
     (w.0, w.1, ap (λ (b : Bool). days_of_month b m - 28) (sym (code-leap y)) ∙ g.1)
 
@@ -145,7 +146,7 @@ iso-field = record {
       let m = month-went a.0 c.0 c.1 (ap (λ (x : ℕ). after_number Month x c.0) (sym a.3.code) ∙ c.4) in
       let d = byte-reads 45 4 c.1 (Tens 4 ∷ Ones Day ∷ rest) c.2 c.6 in
       let e = number-reads 4 Day c.1 rest d.0 d.2 in
-      let f = guarded_some (leb 1 e.0 && leb e.0 (28 + c.1)) 0 e.1 e.4 in
+      let f = cond_some (leb 1 e.0 && leb e.0 (28 + c.1)) 0 e.1 e.4 in
       let w = within 1 e.0 (28 + c.1) f.0 in (
         record { year = a.0; month = c.0; day = e.0 },
         0,
@@ -180,7 +181,7 @@ name-goes over month h = let t : leb (28 + over) (days_of_month true (month + 1)
 
 name-went : (over month to : ℕ) → after_name over month ≡ Some to → (28 + over ≤ days_of_month true (month + 1)) × (to ≡ wants_leap over month)
 name-went over month to h =
-    let g = guarded_some (leb (28 + over) (days_of_month true (month + 1))) (wants_leap over month) to h in
+    let g = cond_some (leb (28 + over) (days_of_month true (month + 1))) (wants_leap over month) to h in
     (grind (arith, nat_tests, g.0), sym g.1)
 
 short-enough : (y m d to : ℕ) → d - 28 + 28 ≤ days_of_month true (m + 1) → to ≡ wants_leap (d - 28) m → (to ≡ 1 → is_leap y ≡ true) → d ≤ month_length y (m + 1)
@@ -188,7 +189,7 @@ short-enough y m d to h e l = grind (arith, nat_tests)
 
 must-leap : (y m d : ℕ) → m < 12 → d ≤ month_length y (m + 1) → wants_leap (d - 28) m ≡ 1 → is_leap y ≡ true
 must-leap y m d h k e =
-    elim (bool_cases ((d - 28 == 1) && (m == 1))) [
+    elim (cases_Bool ((d - 28 == 1) && (m == 1))) [
       | inl t ↦ late-february y m d h k t
       | inr f ↦ let z : wants_leap (d - 28) m ≡ 0 = rw f refl in absurd (omega arith)
     ]
@@ -220,7 +221,7 @@ named-field = record {
       ∙ yf.writes date.year to gy rest tail;
   reads = λ rest whole h.
       let a = number-reads 1 NamedDay 0 (Byte 47 4 ∷ NameFirst ∷ NameSecond ∷ NameThird ∷ Byte 47 2 ∷ (year_places ++ rest)) whole h in
-      let ag = guarded_some (leb 1 a.0 && leb a.0 31) (a.0 - 28) a.1 a.4 in
+      let ag = cond_some (leb 1 a.0 && leb a.0 31) (a.0 - 28) a.1 a.4 in
       let aw = within 1 a.0 31 ag.0 in
       let b = byte-reads 47 4 a.1 (NameFirst ∷ NameSecond ∷ NameThird ∷ Byte 47 2 ∷ (year_places ++ rest)) a.2 a.6 in
       let c = name-reads a.1 (Byte 47 2 ∷ (year_places ++ rest)) b.0 b.2 in

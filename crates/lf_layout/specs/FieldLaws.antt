@@ -1,7 +1,8 @@
 -- The fields of a layout: which places read them, and with what memory they go on.
 use Rattle.std.proofs.Common.{◌≡◌, ℕ, ◌+◌, ◌-◌, ◌*◌, ◌/◌, ◌%◌, ◌<◌, List, [], ◌∷◌, ◌++◌, Option, None, Some, true, cond, ltb, ◌==◌, refl, sym, ap, ◌∙◌, arith, append_assoc}
 use Rattle.std.proofs.lemmas.Bool.Decides.{nat_tests}
-use Rattle.lf_core.proofs.Accepts.{guarded, guarded_some}
+use Rattle.std.proofs.lemmas.Option.{cond_some}
+use Rattle.lf_core.specs.AcceptsLaws.{guarded}
 use Rattle.lf_layout.specs.Texts.{two, three, clock_text}
 use Rattle.lf_layout.specs.Places.{after_number, is_digit, after_place, clock_places}
 use Rattle.lf_layout.specs.PlaceLaws.{run, run-step, run-first, digit-less}
@@ -59,7 +60,7 @@ byte-writes byte memories memory rest tail =
 pub byte-reads : (byte memories memory : ℕ) (rest : List Place) (whole : List ℕ) → run (Byte byte memories ∷ rest) memory whole ≡ true → (tail : List ℕ) × (whole ≡ byte ∷ tail) × (run rest memory tail ≡ true)
 byte-reads byte memories memory rest whole h =
     let f = run-first (Byte byte memories) rest memory whole h in
-    let g = guarded_some (f.0 == byte) memory f.2 f.4 in
+    let g = cond_some (f.0 == byte) memory f.2 f.4 in
     let e : f.0 ≡ byte = grind (arith, nat_tests, g.0) in
     (f.1, f.3 ∙ ap (λ (c : ℕ). c ∷ f.1) e, ap (λ (m : ℕ). run rest m f.1) g.1 ∙ f.5)
 
@@ -71,7 +72,7 @@ forget-writes byte memories memory rest tail =
 pub forget-reads : (byte memories memory : ℕ) (rest : List Place) (whole : List ℕ) → run (Forget byte memories ∷ rest) memory whole ≡ true → (tail : List ℕ) × (whole ≡ byte ∷ tail) × (run rest 0 tail ≡ true)
 forget-reads byte memories memory rest whole h =
     let f = run-first (Forget byte memories) rest memory whole h in
-    let g = guarded_some (f.0 == byte) 0 f.2 f.4 in
+    let g = cond_some (f.0 == byte) 0 f.2 f.4 in
     let e : f.0 ≡ byte = grind (arith, nat_tests, g.0) in
     (f.1, f.3 ∙ ap (λ (c : ℕ). c ∷ f.1) e, ap (λ (m : ℕ). run rest m f.1) g.1 ∙ f.5)
 
@@ -101,7 +102,7 @@ number-writes memories number memory n to h e rest tail =
 pub number-reads : (memories : ℕ) (number : Number) (memory : ℕ) (rest : List Place) (whole : List ℕ) → run (Tens memories ∷ Ones number ∷ rest) memory whole ≡ true → (n : ℕ) × (to : ℕ) × (tail : List ℕ) × (n < 100) × (after_number number memory n ≡ Some to) × (whole ≡ two n ++ tail) × (run rest to tail ≡ true)
 number-reads memories number memory rest whole h =
     let f = run-first (Tens memories) (Ones number ∷ rest) memory whole h in
-    let g = guarded_some (is_digit f.0) (10 * memory + (f.0 - 48)) f.2 f.4 in
+    let g = cond_some (is_digit f.0) (10 * memory + (f.0 - 48)) f.2 f.4 in
     let d = digit-less f.0 g.0 in
     let s = run-first (Ones number) rest f.2 f.1 f.5 in
     let k = guarded (is_digit s.0) (after_number number (f.2 / 10) (10 * (f.2 % 10) + (s.0 - 48))) s.2 s.4 in
@@ -119,7 +120,7 @@ digit-writes d rest tail h = run-step Digit rest 0 0 (48 + d) tail (rw (digit-is
 digit-reads : (rest : List Place) (whole : List ℕ) → run (Digit ∷ rest) 0 whole ≡ true → (d : ℕ) × (tail : List ℕ) × (d < 10) × (whole ≡ (48 + d) ∷ tail) × (run rest 0 tail ≡ true)
 digit-reads rest whole h =
     let f = run-first Digit rest 0 whole h in
-    let g = guarded_some (is_digit f.0) 0 f.2 f.4 in
+    let g = cond_some (is_digit f.0) 0 f.2 f.4 in
     let d = digit-less f.0 g.0 in
     let e : f.0 ≡ 48 + (f.0 - 48) = omega (arith, d.0) in
     (f.0 - 48, f.1, omega (arith, d.1), f.3 ∙ ap (λ (c : ℕ). c ∷ f.1) e, ap (λ (m : ℕ). run rest m f.1) g.1 ∙ f.5)
@@ -149,7 +150,7 @@ three-field = record {
 -- the time of a day
 
 under : (n limit to : ℕ) → cond {A = Option ℕ} (ltb n limit) (Some 0) None ≡ Some to → (n < limit) × (0 ≡ to)
-under n limit to e = let g = guarded_some (ltb n limit) 0 to e in (grind (arith, nat_tests, g.0), g.1)
+under n limit to e = let g = cond_some (ltb n limit) 0 to e in (grind (arith, nat_tests, g.0), g.1)
 
 under-is : (n limit : ℕ) → n < limit → cond {A = Option ℕ} (ltb n limit) (Some 0) None ≡ Some 0
 under-is n limit h = let t : ltb n limit ≡ true = grind (arith, nat_tests) in rw t refl

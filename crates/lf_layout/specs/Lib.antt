@@ -5,7 +5,6 @@ pub mod Layouts
 pub mod Places
 pub mod Names
 pub mod Readings
-pub mod Choices
 pub mod CalendarLaws
 pub mod PlaceLaws
 pub mod FieldLaws

@@ -1,11 +1,12 @@
 -- The places of a month's name read the names of the months.
 use Rattle.std.proofs.Common.{◌≡◌, ℕ, zero, suc, ◌+◌, ◌*◌, ◌/◌, ◌%◌, ◌<◌, List, ◌∷◌, Option, Some, Bool, true, ◌&&◌, ◌==◌, refl, sym, ap, ◌∙◌, arith}
 use Rattle.std.proofs.lemmas.Bool.Decides.{nat_tests}
+use Rattle.std.proofs.lemmas.Bool.{and_parts}
 use Rattle.lf_layout.specs.Texts.{month_letter}
 use Rattle.lf_layout.specs.Names.{first_month, month_of_name}
 use Rattle.lf_layout.specs.Places.{starts_name, goes_on, ends_name, after_name, and_then, after_place}
 use Rattle.lf_layout.specs.PlaceLaws.{run, run-step, run-first, and_then-some, first_month-found, first_month-finds}
-use Rattle.lf_layout.specs.Choices.{and_parts, unwrap}
+use Rattle.lf_core.specs.Choices.{unwrap}
 use Rattle.lf_layout.specs.declared.place.Place.{Place}
 use Rattle.lf_layout.specs.declared.place.Place.TheVariants.{NameFirst, NameSecond, NameThird}
 

@@ -2,13 +2,13 @@
 use Rattle.std.proofs.Common.{◌≡◌, ℕ, zero, suc, ◌+◌, ◌*◌, ◌/◌, ◌%◌, ◌<◌, ◌≤◌, inl, inr, List, [], ◌∷◌, ◌++◌, Some, Bool, true, false, cond, not, ◌&&◌, ◌==◌, ltb, refl, sym, ap, ◌∙◌, arith, append_assoc}
 use Rattle.std.specs.Prelude.{ℤ, pos, negsuc, unsigned_abs}
 use Rattle.std.proofs.lemmas.Bool.Decides.{nat_tests}
+use Rattle.std.proofs.lemmas.Bool.{cases_Bool}
+use Rattle.std.proofs.lemmas.Option.{cond_some}
 use Rattle.jiff_core.proofs.SignedLemmas.{signed_arith}
-use Rattle.lf_core.proofs.Accepts.{guarded_some}
 use Rattle.lf_layout.specs.Texts.{two, sign_letter, letter_if, offset_text}
 use Rattle.lf_layout.specs.Layouts.{IsOffset}
 use Rattle.lf_layout.specs.Places.{after_number, after_place, places_if, offset_places}
 use Rattle.lf_layout.specs.PlaceLaws.{run, run-step, run-first}
-use Rattle.lf_layout.specs.Choices.{bool_cases}
 use Rattle.lf_layout.specs.FieldLaws.{IsField, byte-writes, byte-reads, number-writes, number-reads}
 use Rattle.lf_layout.specs.declared.place.Number.TheVariants.{OffsetHour, OffsetMinute}
 use Rattle.lf_layout.specs.declared.place.Place.{Place}
@@ -42,7 +42,7 @@ hours-go sign hours h = let t : ltb hours 24 ≡ true = grind (arith, nat_tests)
 
 hours-went : (sign hours to : ℕ) → after_number OffsetHour sign hours ≡ Some to → (hours < 24) × (zero_so_far sign hours ≡ to)
 hours-went sign hours to h =
-    let g = guarded_some (ltb hours 24) (zero_so_far sign hours) to h in
+    let g = cond_some (ltb hours 24) (zero_so_far sign hours) to h in
     (grind (arith, nat_tests, g.0), g.1)
 
 minutes-go : (sign hours minutes : ℕ) → minutes < 60 → (sign ≡ 1 → 0 < hours + minutes) → after_number OffsetMinute (zero_so_far sign hours) minutes ≡ Some 0
@@ -52,7 +52,7 @@ minutes-go sign hours minutes h k =
 
 minutes-went : (sign hours minutes to : ℕ) → after_number OffsetMinute (zero_so_far sign hours) minutes ≡ Some to → (minutes < 60) × (sign ≡ 1 → 0 < hours + minutes) × (0 ≡ to)
 minutes-went sign hours minutes to h =
-    let g = guarded_some (ltb minutes 60 && not ((zero_so_far sign hours == 1) && (minutes == 0))) 0 to h in
+    let g = cond_some (ltb minutes 60 && not ((zero_so_far sign hours == 1) && (minutes == 0))) 0 to h in
     (grind (arith, nat_tests, g.0), λ s. grind (arith, nat_tests, g.0, s), g.1)
 
 abbrev Tells : ℕ → ℕ → ℕ → Type 0
@@ -61,12 +61,12 @@ Tells letter sign minutes =
 
 tells : (letter sign minutes : ℕ) → after_place Sign 0 letter ≡ Some sign → minutes < 1440 → (sign ≡ 1 → 0 < minutes) → Tells letter sign minutes
 tells letter sign minutes h l k =
-    elim (bool_cases (letter == 43)) [
+    elim (cases_Bool (letter == 43)) [
       | inl t ↦
           let e : 43 ≡ letter = grind (arith, nat_tests) in
           (pos minutes, (omega (arith, signed_arith), omega (arith, signed_arith)), e, refl)
       | inr f ↦
-          let g = guarded_some (letter == 45) 1 sign (rw f at h) in
+          let g = cond_some (letter == 45) 1 sign (rw f at h) in
           let e : 45 ≡ letter = grind (arith, nat_tests, g.0) in
           let s : 0 < minutes = k (sym g.1) in
           negative minutes letter e s l

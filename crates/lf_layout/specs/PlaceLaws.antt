@@ -2,14 +2,16 @@
 use Rattle.std.proofs.Common.{◌≡◌, ℕ, zero, suc, ◌+◌, ◌-◌, ◌*◌, ◌/◌, ◌%◌, ◌<◌, ◌≤◌, inl, inr, List, [], ◌∷◌, Option, None, Some, Bool, true, false, cond, not, ◌&&◌, ltb, leb, ◌==◌, refl, sym, ap, subst, ◌∙◌, arith}
 use Rattle.std.proofs.lemmas.Bool.Decides.{nat_tests}
 use Rattle.lf_core.specs.Domain.{accepts}
-use Rattle.lf_core.proofs.Accepts.{accepts-step, accepts-stop, accepts-image, map_option, guarded, guarded_some}
+use Rattle.lf_core.specs.AcceptsLaws.{accepts-step, accepts-stop, accepts-image, map_option, guarded}
 use Rattle.std.specs.Prelude.{codes}
 use Rattle.std.specs.List.{list_all}
 use Rattle.std.proofs.Common.{get_or}
+use Rattle.std.proofs.lemmas.Bool.{and_parts, cases_Bool}
+use Rattle.std.proofs.lemmas.Option.{cond_some}
 use Rattle.lf_layout.specs.Calendar.{days_of_month}
 use Rattle.lf_layout.specs.Texts.{month_letter}
 use Rattle.lf_layout.specs.Names.{first_month}
-use Rattle.lf_layout.specs.Choices.{bool_cases, below, and_parts, option_cases, unwrap}
+use Rattle.lf_core.specs.Choices.{below, option_cases, unwrap}
 use Rattle.lf_layout.specs.Places.{number_memories, number_exits, after_number, century_class, is_digit, starts_name, goes_on, ends_name, after_name, and_then, place_memories, place_exits, after_place, point_count, shifted, next_point, is_last, is_chained, is_byte, all_bytes}
 use Rattle.lf_layout.specs.declared.place.Number.{Number}
 use Rattle.lf_layout.specs.declared.place.Number.TheVariants.{Hour, Minute, Century, YearOfCentury, Month, Day, NamedDay, OffsetHour, OffsetMinute}
@@ -43,28 +45,28 @@ run-first place places memory (c ∷ cs) h =
 -- where each memory stays among those of the next place
 
 number-stays : (number : Number) (memory n after : ℕ) → memory < number_memories number → n < 100 → after_number number memory n ≡ Some after → after < number_exits number
-number-stays Hour memory n after h l e = let g = guarded_some (ltb n 24) 0 after e in omega (arith, g.1)
-number-stays Minute memory n after h l e = let g = guarded_some (ltb n 60) 0 after e in omega (arith, g.1)
+number-stays Hour memory n after h l e = let g = cond_some (ltb n 24) 0 after e in omega (arith, g.1)
+number-stays Minute memory n after h l e = let g = cond_some (ltb n 60) 0 after e in omega (arith, g.1)
 number-stays Century memory n after h l e =
     let f : 3 * memory + century_class n ≡ after = cc in
     let k : century_class n ≤ 2 = grind (arith, nat_tests) in
     omega arith
 number-stays YearOfCentury memory n after h l e = grind (arith, nat_tests)
 number-stays Month memory n after h l e =
-    let g = guarded_some (leb 1 n && leb n 12) (days_of_month (memory == 1) n - 28) after e in
+    let g = cond_some (leb 1 n && leb n 12) (days_of_month (memory == 1) n - 28) after e in
     let k : days_of_month (memory == 1) n ≤ 31 = grind (arith, nat_tests) in
     omega (arith, g.1)
-number-stays Day memory n after h l e = let g = guarded_some (leb 1 n && leb n (28 + memory)) 0 after e in omega (arith, g.1)
+number-stays Day memory n after h l e = let g = cond_some (leb 1 n && leb n (28 + memory)) 0 after e in omega (arith, g.1)
 number-stays NamedDay memory n after h l e =
-    let g = guarded_some (leb 1 n && leb n 31) (n - 28) after e in
+    let g = cond_some (leb 1 n && leb n 31) (n - 28) after e in
     let p = and_parts (leb 1 n) (leb n 31) g.0 in
     let k : n ≤ 31 = grind (arith, nat_tests, p.1) in
     omega (arith, g.1)
 number-stays OffsetHour memory n after h l e =
-    let g = guarded_some (ltb n 24) (cond ((memory == 1) && (n == 0)) 1 0) after e in
+    let g = cond_some (ltb n 24) (cond ((memory == 1) && (n == 0)) 1 0) after e in
     let k : cond ((memory == 1) && (n == 0)) 1 0 ≤ 1 = grind (arith, nat_tests) in
     omega (arith, g.1)
-number-stays OffsetMinute memory n after h l e = let g = guarded_some (ltb n 60 && not ((memory == 1) && (n == 0))) 0 after e in omega (arith, g.1)
+number-stays OffsetMinute memory n after h l e = let g = cond_some (ltb n 60 && not ((memory == 1) && (n == 0))) 0 after e in omega (arith, g.1)
 
 -- months that pass a test
 
@@ -72,7 +74,7 @@ pub first_month-found : (test : ℕ → Bool) (count at month : ℕ) → first_m
 unfolding first_month
 first_month-found test zero at month h = cc
 first_month-found test (suc count) at month h =
-    elim (bool_cases (test at)) [
+    elim (cases_Bool (test at)) [
       | inl t ↦
           let e : at ≡ month = unwrap at month (rw t at h) in
           (subst (λ (x : ℕ). test x ≡ true) e t, omega arith, omega arith)
@@ -89,7 +91,7 @@ first_month-passes : (test : ℕ → Bool) (count at month : ℕ) → first_mont
 unfolding first_month
 first_month-passes test zero at month h l m = absurd (omega arith)
 first_month-passes test (suc count) at month h l m =
-    elim (bool_cases (test at)) [
+    elim (cases_Bool (test at)) [
       | inl t ↦ absurd (none at (rw t at h))
       | inr f ↦
           elim (below at month) [
@@ -129,7 +131,7 @@ and_then-some (Some n) f after h = (n, refl, h)
 
 after_name-most : (over month after : ℕ) → after_name over month ≡ Some after → after < 2
 after_name-most over month after e =
-    let g = guarded_some (leb (28 + over) (days_of_month true (month + 1))) (cond ((over == 1) && (month == 1)) 1 0) after e in
+    let g = cond_some (leb (28 + over) (days_of_month true (month + 1))) (cond ((over == 1) && (month == 1)) 1 0) after e in
     let k : cond ((over == 1) && (month == 1)) 1 0 ≤ 1 = grind (arith, nat_tests) in
     omega (arith, g.1)
 
@@ -144,16 +146,16 @@ Stays place c after = (c < 256) × (after < place_exits place)
 
 pub place-stays : (place : Place) (memory c after : ℕ) → memory < place_memories place → is_byte place ≡ true → after_place place memory c ≡ Some after → Stays place c after
 place-stays (Byte byte memories) memory c after h b e =
-    let g = guarded_some (c == byte) memory after e in
+    let g = cond_some (c == byte) memory after e in
     (grind (arith, nat_tests, g.0), omega (arith, g.1))
 place-stays (Forget byte memories) memory c after h b e =
-    let g = guarded_some (c == byte) 0 after e in
+    let g = cond_some (c == byte) 0 after e in
     (grind (arith, nat_tests, g.0), omega (arith, g.1))
 place-stays Digit memory c after h b e =
-    let g = guarded_some (is_digit c) 0 after e in
+    let g = cond_some (is_digit c) 0 after e in
     (omega (arith, digit-less c g.0), omega (arith, g.1))
 place-stays (Tens memories) memory c after h b e =
-    let g = guarded_some (is_digit c) (10 * memory + (c - 48)) after e in
+    let g = cond_some (is_digit c) (10 * memory + (c - 48)) after e in
     let d = digit-less c g.0 in
     (omega (arith, d.1), omega (arith, g.1, d.1))
 place-stays (Ones number) memory c after h b e =

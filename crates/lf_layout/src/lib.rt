@@ -19,6 +19,3 @@ pub use machine::{is_last, next_point, point_count};
 pub use place::{Number, Place};
 pub use readings::{read_clock, read_day, read_moment};
 pub use writing::{write_clock, write_day, write_moment};
-
-#[cfg(test)]
-mod tests;

@@ -3,7 +3,8 @@ use Rattle.std.proofs.Common.{ℕ, ◌<◌, List, [], ◌∷◌, ltb, sym, subst
 use Rattle.std.proofs.lemmas.List.Elements.{All-head, All-tail}
 use Rattle.lf_core.specs.Marked.{Machine, IsRun, IsWholeRun}
 use Rattle.lf_core.specs.declared.marked.Move.{Move}
-use Rattle.lf_machine.specs.OnBytes.{on_bytes, byte-moves, cond-there}
+use Rattle.lf_machine.specs.OnBytes.{on_bytes, byte-moves}
+use Rattle.lf_machine.specs.Lists.{cond-there}
 
 narrow : (machine : Machine) (line : List ℕ) (point : ℕ) (run : List Move) → All (λ byte. byte < 256) line → IsRun machine.moves point line run → IsRun (on_bytes machine).moves point line run
 narrow machine [] point [] all h = h
@@ -19,7 +20,7 @@ widen machine [] point [] h = h
 widen machine [] point (m ∷ run) h = absurd h
 widen machine (byte ∷ line) point [] h = absurd h
 widen machine (byte ∷ line) point (m ∷ run) h =
-    (cond-there (ltb byte 256) (machine.moves point byte) m h.0, widen machine line m.to run h.1)
+    ((cond-there (ltb byte 256) (machine.moves point byte) m h.0).1, widen machine line m.to run h.1)
 
 -- a whole run over bytes stays one
 pub run-on_bytes : (machine : Machine) (line : List ℕ) (run : List Move) → All (λ byte. byte < 256) line → IsWholeRun machine line run → IsWholeRun (on_bytes machine) line run

@@ -4,7 +4,8 @@ use Rattle.std.specs.List.{flat_map}
 use Rattle.std.proofs.Math.Bool.{and-false}
 use Rattle.std.proofs.lemmas.Bool.Decides.{nat_tests}
 use Rattle.std.proofs.lemmas.Grind.{flat_map-append}
-use Rattle.std.proofs.lemmas.Bool.{cases_Bool}
+use Rattle.std.proofs.lemmas.Bool.{cases_Bool, eqb-true}
+use Rattle.std.proofs.lemmas.List.{nil_from_length}
 use Rattle.lf_core.specs.declared.marked.Move.{Move}
 use Rattle.lf_code_table.specs.Endings.{last_of, letters_ending}
 use Rattle.lf_code_table.specs.Lone.{is_lone, lone_of}
@@ -43,12 +44,8 @@ module _ (takes : ℕ → Bool) (word : ℕ → List ℕ) (next : ℕ → Option
   pub letters-moves : letter_moves takes word next 3 width (read ++ byte ∷ []) 256 ≡ flat_map one (letters_ending takes word byte 256)
   letters-moves = moves-upto 256
 
-no-length : (n : ℕ) → (suc n == 0) ≡ true → ⊥
-no-length n h = let e : suc n ≡ 0 = grind (arith, nat_tests, h) in omega (arith, e)
-
 pub length-none : (xs : List ℕ) → (length xs == 0) ≡ true → xs ≡ []
-length-none [] h = refl
-length-none (x ∷ xs) h = absurd (no-length (length xs) h)
+length-none xs h = nil_from_length xs (eqb-true (length xs) 0 h)
 
 -- a word is the byte if it has one byte, and ends with it
 one-byte : (word : List ℕ) (byte : ℕ) → same_list word (byte ∷ []) ≡ (last_of word == byte) && (length word == 1)

@@ -1,7 +1,8 @@
 -- Of two runs over the words of letters the lesser has the lesser letters.
 use Rattle.std.proofs.Common.{◌≡◌, ℕ, ◌+◌, ◌<◌, ◌⊎◌, inl, inr, List, [], ◌∷◌, ◌++◌, true, refl, sym, ap, ◌∙◌, arith, append_assoc, append-nil}
+use Rattle.std.proofs.lemmas.List.{append_cancel_left}
 use Rattle.lf_core.specs.Domain.{accepts}
-use Rattle.lf_core.proofs.Accepts.{accepts-first}
+use Rattle.lf_core.specs.AcceptsLaws.{accepts-first}
 use Rattle.lf_escape.specs.Codes.{coded}
 use Rattle.lf_machine.specs.Paths.{Step, Before}
 use Rattle.lf_machine.specs.RecordOrder.{IsTextLess}
@@ -20,10 +21,6 @@ split (b ∷ xs) (d ∷ ys) x y e =
       | inl r ↦ let k = r.1 in inl (r.0, cc)
       | inr r ↦ let k = r.1 in inr (r.0, cc)
     ]
-
-cancel : (xs x y : List ℕ) → xs ++ x ≡ xs ++ y → x ≡ y
-cancel [] x y e = e
-cancel (b ∷ xs) x y e = let t : xs ++ x ≡ xs ++ y = cc in cancel xs x y t
 
 module _ (sm : SlotMachine)
     (prefix_free : (a b : ℕ) (rest : List ℕ) → sm.takes a ≡ true → sm.takes b ≡ true → sm.word b ≡ sm.word a ++ rest → rest ≡ []) where
@@ -68,7 +65,7 @@ module _ (sm : SlotMachine)
       let g = accepts-first sm.next sm.ends r m ds d in
       let e2 : sm.word c ++ (coded sm.word cs ++ x) ≡ sm.word m ++ (coded sm.word ds ++ y) = sym (append_assoc (sm.word c) (coded sm.word cs) x) ∙ e ∙ append_assoc (sm.word m) (coded sm.word ds) y in
       let same = same-words c m (coded sm.word cs ++ x) (coded sm.word ds ++ y) s.0 t.0 e2 in
-      let e3 : coded sm.word cs ++ x ≡ coded sm.word ds ++ y = cancel (sm.word c) (coded sm.word cs ++ x) (coded sm.word ds ++ y) (e2 ∙ ap (λ (z : List ℕ). z ++ (coded sm.word ds ++ y)) (sym same)) in
+      let e3 : coded sm.word cs ++ x ≡ coded sm.word ds ++ y = append_cancel_left (sm.word c) (coded sm.word cs ++ x) (coded sm.word ds ++ y) (e2 ∙ ap (λ (z : List ℕ). z ++ (coded sm.word ds ++ y)) (sym same)) in
       let w = sm.least c s.0 in
       let w2 : sm.word m ≡ w.0 ∷ w.1 = sym same ∙ w.2 in
       let h2 = rw (letters_run-first sm q c f.0 w.0 w.1 cs f.1 w.2, letters_run-first sm r m g.0 w.0 w.1 ds g.1 w2) at h in

@@ -4,7 +4,7 @@ use Rattle.std.proofs.lemmas.List.Elements.{All-nil, All-cons, All-append, All-h
 use Rattle.lf_core.specs.declared.values.Value.{Value}
 use Rattle.lf_core.specs.declared.values.Value.TheVariants.{Missing}
 use Rattle.lf_escape.specs.Codes.{IsCode, coded}
-use Rattle.lf_format.specs.Codings.{coding_word, coding_laws}
+use Rattle.lf_escape.specs.Codings.{coding_word, coding_laws}
 use Rattle.lf_format.specs.Kinds.{plain_text}
 use Rattle.lf_format.specs.Slots.{Holds, in_quotes, missing_text, slot_text}
 use Rattle.lf_format.specs.Lines.{IsRecordOf, line_text}

@@ -3,7 +3,7 @@ use Rattle.std.proofs.Common.{◌≡◌, ℕ, List, [], ◌∷◌, refl, ap, ◌
 use Rattle.lf_machine.specs.Paths.{Step, IsPath, last}
 use Rattle.lf_machine.specs.Parts.{IsWhole}
 use Rattle.lf_machine.specs.Unquoted.{Within, left}
-use Rattle.lf_machine.specs.Literal.{passing, LiteralNext, IsOver, LiteralCan, LiteralDone, literal_run}
+use Rattle.lf_machine.specs.Literal.{passing, LiteralCan, LiteralDone, literal_run, literal_part}
 
 literal-path : (line rest : List ℕ) (run : List (Step Within)) → IsPath LiteralCan (left rest) line run → LiteralDone (last (left rest) run) → (line ≡ rest) × (run ≡ literal_run rest)
 literal-path [] [] [] p d = (refl, refl)
@@ -22,7 +22,7 @@ path-literal [] = (tt, tt)
 path-literal (x ∷ rest) = let r = path-literal rest in (((refl, refl), r.0), r.1)
 
 -- a literal has one whole run, over its bytes
-pub literal-sound : (bytes line : List ℕ) (run : List (Step Within)) → IsWhole (LiteralNext bytes) LiteralCan LiteralDone (IsOver bytes) line run → (line ≡ bytes) × (run ≡ literal_run bytes)
+pub literal-sound : (bytes line : List ℕ) (run : List (Step Within)) → IsWhole (literal_part bytes) line run → (line ≡ bytes) × (run ≡ literal_run bytes)
 literal-sound [] [] [] h = (refl, refl)
 literal-sound (x ∷ rest) [] [] h = absurd h
 literal-sound bytes [] (m ∷ run) h = absurd h
@@ -34,6 +34,6 @@ literal-sound (x ∷ rest) (b ∷ line) (m ∷ run) h =
     let r = literal-path line rest run q f in
     (ap (λ (z : ℕ). z ∷ line) h.0.0 ∙ ap (λ (z : List ℕ). x ∷ z) r.0, ap (λ (z : Step Within). z ∷ run) h.0.1 ∙ ap (λ (z : List (Step Within)). passing rest ∷ z) r.1)
 
-pub literal-complete : (bytes : List ℕ) → IsWhole (LiteralNext bytes) LiteralCan LiteralDone (IsOver bytes) bytes (literal_run bytes)
+pub literal-complete : (bytes : List ℕ) → IsWhole (literal_part bytes) bytes (literal_run bytes)
 literal-complete [] = tt
 literal-complete (x ∷ rest) = let r = path-literal rest in ((refl, refl), r.0, r.1)

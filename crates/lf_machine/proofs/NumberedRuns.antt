@@ -3,16 +3,17 @@ use Rattle.std.proofs.Common.{◌≡◌, ℕ, List, [], ◌∷◌, map, true, re
 use Rattle.lf_core.specs.Marked.{Machine, IsRun, IsWholeRun, stop}
 use Rattle.lf_core.specs.declared.marked.Move.{Move}
 use Rattle.lf_machine.specs.Paths.{Step, IsPath, last}
-use Rattle.lf_machine.specs.Parts.{IsWhole}
+use Rattle.lf_machine.specs.Parts.{IsWhole, Part}
 use Rattle.lf_machine.specs.Numbered.{numbered, IsNumbered}
+use Rattle.lf_machine.proofs.Joins.{step-same}
 
-module _ {S : Type 0} (enter : ℕ → Step S → Type 0) (can : S → ℕ → Step S → Type 0) (done : S → Type 0) (empty : Type 0) (machine : Machine) (number : S → ℕ) (At : ℕ → S → Type 0)
-    (is : IsNumbered enter can done empty machine number At) where
+module _ {S : Type 0} (part : Part S) (machine : Machine) (number : S → ℕ) (At : ℕ → S → Type 0)
+    (is : IsNumbered part machine number At) where
   pub record Lifted (s : S) (line : List ℕ) (run : List Move) : Type 0 where
     pub steps : List (Step S)
     pub same : run ≡ map (numbered number) steps
-    pub path : IsPath can s line steps
-    pub done_at : done (last s steps)
+    pub path : IsPath part.can s line steps
+    pub done_at : part.done (last s steps)
 
   lift : (line : List ℕ) (run : List Move) (n : ℕ) (s : S) → At n s → IsRun machine.moves n line run → (machine.is_end (stop n run) ≡ true) → Lifted s line run
   lift [] [] n s i p d = record { steps = []; same = refl; path = tt; done_at = is.ends n s i d }
@@ -30,7 +31,7 @@ module _ {S : Type 0} (enter : ℕ → Step S → Type 0) (can : S → ℕ → S
         done_at = r.done_at;
       }
 
-  lower : (line : List ℕ) (steps : List (Step S)) (n : ℕ) (s : S) → At n s → IsPath can s line steps → done (last s steps) → IsRun machine.moves n line (map (numbered number) steps) × (machine.is_end (stop n (map (numbered number) steps)) ≡ true)
+  lower : (line : List ℕ) (steps : List (Step S)) (n : ℕ) (s : S) → At n s → IsPath part.can s line steps → part.done (last s steps) → IsRun machine.moves n line (map (numbered number) steps) × (machine.is_end (stop n (map (numbered number) steps)) ≡ true)
   lower [] [] n s i p d = (tt, is.ended n s i d)
   lower [] (m ∷ run) n s i p d = absurd p
   lower (b ∷ line) [] n s i p d = absurd p
@@ -40,7 +41,7 @@ module _ {S : Type 0} (enter : ℕ → Step S → Type 0) (can : S → ℕ → S
       ((g.1, r.0), r.1)
 
   -- each whole run of the machine by numbers is one of the machine's states
-  pub whole-states : (line : List ℕ) (run : List Move) → IsWholeRun machine line run → (steps : List (Step S)) × IsWhole enter can done empty line steps × (run ≡ map (numbered number) steps)
+  pub whole-states : (line : List ℕ) (run : List Move) → IsWholeRun machine line run → (steps : List (Step S)) × IsWhole part line steps × (run ≡ map (numbered number) steps)
   whole-states [] [] w = ([], is.ends_empty w.1, refl)
   whole-states [] (m ∷ run) w = absurd w.0
   whole-states (b ∷ line) [] w = absurd w.0
@@ -51,7 +52,7 @@ module _ {S : Type 0} (enter : ℕ → Step S → Type 0) (can : S → ℕ → S
       let r = lift line run (number g.0.to) g.0.to g.2 q e in
       (g.0 ∷ r.steps, (g.1, r.path, r.done_at), ap (λ (x : Move). x ∷ run) g.3 ∙ ap (λ (x : List Move). numbered number g.0 ∷ x) r.same)
 
-  pub states-whole : (line : List ℕ) (steps : List (Step S)) → IsWhole enter can done empty line steps → IsWholeRun machine line (map (numbered number) steps)
+  pub states-whole : (line : List ℕ) (steps : List (Step S)) → IsWhole part line steps → IsWholeRun machine line (map (numbered number) steps)
   states-whole [] [] w = (tt, is.ended_empty w)
   states-whole [] (m ∷ run) w = absurd w
   states-whole (b ∷ line) [] w = absurd w
@@ -66,11 +67,9 @@ module _ {S : Type 0} (enter : ℕ → Step S → Type 0) (can : S → ℕ → S
       let n : number a.to ≡ number c.to = ap (λ (x : Move). x.to) e in
       let k : At (number a.to) c.to = rw n j in
       let t : a.to ≡ c.to = is.only (number a.to) a.to c.to i k in
-      let f : record { mark = a.mark; to = a.to } ≡ record { mark = c.mark; to = a.to } = ap (λ (n : ℕ). let k : Step S = record { mark = n; to = a.to } in k) m in
-      let g : record { mark = c.mark; to = a.to } ≡ record { mark = c.mark; to = c.to } = ap (λ (t : S). let k : Step S = record { mark = c.mark; to = t } in k) t in
-      f ∙ g
+      step-same a c m t
 
-  paths-apart : (ra rc : List (Step S)) (la lc : List ℕ) (n k : ℕ) (s t : S) → At n s → At k t → IsPath can s la ra → IsPath can t lc rc → map (numbered number) ra ≡ map (numbered number) rc → ra ≡ rc
+  paths-apart : (ra rc : List (Step S)) (la lc : List ℕ) (n k : ℕ) (s t : S) → At n s → At k t → IsPath part.can s la ra → IsPath part.can t lc rc → map (numbered number) ra ≡ map (numbered number) rc → ra ≡ rc
   paths-apart [] [] la lc n k s t i j p q e = refl
   paths-apart [] (c ∷ rc) la lc n k s t i j p q e = cc
   paths-apart (a ∷ ra) [] la lc n k s t i j p q e = cc
@@ -86,7 +85,7 @@ module _ {S : Type 0} (enter : ℕ → Step S → Type 0) (can : S → ℕ → S
       cc
 
   -- two whole runs of states with one list of moves are one
-  pub states-apart : (la lc : List ℕ) (ra rc : List (Step S)) → IsWhole enter can done empty la ra → IsWhole enter can done empty lc rc → map (numbered number) ra ≡ map (numbered number) rc → ra ≡ rc
+  pub states-apart : (la lc : List ℕ) (ra rc : List (Step S)) → IsWhole part la ra → IsWhole part lc rc → map (numbered number) ra ≡ map (numbered number) rc → ra ≡ rc
   states-apart la lc [] [] v w e = refl
   states-apart la lc [] (c ∷ rc) v w e = cc
   states-apart la lc (a ∷ ra) [] v w e = cc

@@ -3,13 +3,12 @@ use Rattle.std.proofs.Common.{◌≡◌, ◌≢◌, ℕ, ◌⊎◌, inl, inr, Li
 use Rattle.std.proofs.lemmas.List.Elements.{All-head, All-tail}
 use Rattle.lf_core.specs.declared.values.Value.{Value}
 use Rattle.lf_core.specs.declared.values.Value.TheVariants.{Missing}
-use Rattle.lf_format.specs.Codings.{coding_takes, coding_laws}
+use Rattle.lf_escape.specs.Codings.{coding_takes, coding_laws}
 use Rattle.lf_format.specs.Kinds.{HoldsKind, plain_text, kind_laws}
 use Rattle.lf_format.specs.Slots.{holds_missing, IsNotAbsence, Holds, missing_text, slot_text}
-use Rattle.lf_format.specs.Keeps.{KeepsPiece, EachKept}
+use Rattle.lf_format.specs.Keeps.{KeepsPiece, EachKept, TakesPlain}
 use Rattle.lf_format.specs.declared.kind.Kind.{Kind}
 use Rattle.lf_format.specs.declared.kind.Kind.TheVariants as kinds
-use Rattle.lf_format.specs.declared.kind.Coding.{Coding}
 use Rattle.lf_format.specs.declared.slot.Slot.{Slot as ASlot}
 use Rattle.lf_format.specs.declared.slot.Absent.{Absent}
 use Rattle.lf_format.specs.declared.slot.Absent.TheVariants.{No, Dash, DashTwo, Blank}
@@ -18,11 +17,12 @@ use Rattle.lf_format.specs.declared.format.Piece.TheVariants.{Literal, Slot}
 use Rattle.lf_machine.specs.Parts.{IsWhole}
 use Rattle.lf_machine.proofs.RowRuns.{IsExact, AllExact}
 use Rattle.lf_machine.specs.Letters.{AllTaken}
-use Rattle.lf_machine.specs.Unquoted.{Said, nothing, letters}
+use Rattle.lf_machine.specs.Unquoted.{Said, nothing, letters, HoldsSaid, said_text, said_run, plain_part}
 use Rattle.lf_machine.proofs.PlainRuns.{said-sound, said-complete, said-apart}
 use Rattle.lf_machine.proofs.QuotedRuns.{quoted-sound, quoted-complete, quoted-apart}
 use Rattle.lf_machine.proofs.LiteralRuns.{literal-sound, literal-complete}
-use Rattle.lf_machine.specs.Pieces.{slot_machine, is_blank, is_one, dash_of, blank_of, said_of, PlainSaid as PlainSaid_of, unquoted_text as unquoted_text_of, QuoteSaid as QuoteSaid_of, quote_text as quote_text_of, Takes as Takes_of, PlainEnter, PlainCan, PlainDone, PlainEmpty, plain_run, QuoteEnter, QuoteCan, QuoteDone, quote_run, PieceEnter, PieceCan, PieceDone, PieceEmpty, piece_marks, HoldsPiece, piece_text, piece_run}
+use Rattle.lf_machine.specs.Pieces.{machine_of, is_blank, is_one, dash_of, blank_of, said_of, piece_row}
+use Rattle.lf_machine.specs.Quoted.{HoldsQuoted, quoted_text, quoted_run, framed_part}
 
 pub missing-said : (a : Absent) (p : Bool) → holds_missing a p ≡ true → (dash_of a p ≡ true) ⊎ (blank_of a p ≡ true)
 missing-said No p h = cc
@@ -34,23 +34,17 @@ missing-said Blank true h = cc
 missing-said Blank false h = inr refl
 
 said-missing : (a : Absent) (p : Bool) → (dash_of a p ≡ true) ⊎ (blank_of a p ≡ true) → holds_missing a p ≡ true
-said-missing No true h = elim h [ inl d ↦ d | inr d ↦ d ]
+said-missing a true h = elim h [ inl d ↦ cc | inr d ↦ cc ]
 said-missing No false h = elim h [ inl d ↦ d | inr d ↦ d ]
-said-missing Dash true h = elim h [ inl d ↦ d | inr d ↦ d ]
 said-missing Dash false h = refl
-said-missing DashTwo true h = elim h [ inl d ↦ d | inr d ↦ d ]
 said-missing DashTwo false h = refl
-said-missing Blank true h = elim h [ inl d ↦ d | inr d ↦ d ]
 said-missing Blank false h = refl
 
 pub one-absence : (a : Absent) (p : Bool) → dash_of a p ≡ true → blank_of a p ≡ true → ⊥
-one-absence No true d b = cc
+one-absence a true d b = cc
 one-absence No false d b = cc
-one-absence Dash true d b = cc
 one-absence Dash false d b = cc
-one-absence DashTwo true d b = cc
 one-absence DashTwo false d b = cc
-one-absence Blank true d b = cc
 one-absence Blank false d b = cc
 
 pub blank-apart : (a : Absent) (p : Bool) → blank_of a p ≡ true → is_blank a ≡ true
@@ -117,72 +111,56 @@ kind-never (kinds.Ha d) h = h
 kind-never (kinds.Date d) h = h
 kind-never (kinds.Clock d) h = h
 
-module _ (kind : Kind) (code : Coding) (absent : Absent) (present : Bool) where
-  abbrev PlainSaid : Said → Type 0
-  PlainSaid = PlainSaid_of kind code absent present
-
-  abbrev unquoted_text : Said → List ℕ
-  unquoted_text = unquoted_text_of kind code absent present
-
-  abbrev QuoteSaid : Said → Type 0
-  QuoteSaid = QuoteSaid_of kind code absent present
-
-  abbrev quote_text : Said → List ℕ
-  quote_text = quote_text_of kind code absent present
-
-  abbrev Takes : Type 0
-  Takes = Takes_of kind code absent present
-
-  all-taken : (cs : List ℕ) → All (λ letter. coding_takes code letter ≡ true) cs → AllTaken (slot_machine kind code absent present) cs
+module _ (s : ASlot) where
+  all-taken : (cs : List ℕ) → All (λ letter. coding_takes s.code letter ≡ true) cs → AllTaken (machine_of s) cs
   all-taken [] h = tt
-  all-taken (c ∷ cs) h = (All-head (λ letter. coding_takes code letter ≡ true) c cs h, all-taken cs (All-tail (λ letter. coding_takes code letter ≡ true) c cs h))
+  all-taken (c ∷ cs) h = (All-head (λ letter. coding_takes s.code letter ≡ true) c cs h, all-taken cs (All-tail (λ letter. coding_takes s.code letter ≡ true) c cs h))
 
   -- the letters of a held value are those that the slot's machine reads
-  held-said : Takes → (v : Value) → HoldsKind kind v → (is_one absent ≡ true → plain_text kind v ≢ 45 ∷ []) × (is_blank absent ≡ true → plain_text kind v ≢ []) → PlainSaid (letters (plain_text kind v))
-  held-said t v h a = let l = kind_laws kind in (all-taken (plain_text kind v) (t v h), l.complete v h, a.0, a.1)
+  held-said : TakesPlain s.kind s.code → (v : Value) → HoldsKind s.kind v → (is_one s.absent ≡ true → plain_text s.kind v ≢ 45 ∷ []) × (is_blank s.absent ≡ true → plain_text s.kind v ≢ []) → HoldsSaid (machine_of s) (letters (plain_text s.kind v))
+  held-said t v h a = let l = kind_laws s.kind in (all-taken (plain_text s.kind v) (t v h), l.complete v h, a.0, a.1)
 
-  held-quoted : Takes → (v : Value) → HoldsKind kind v → (is_blank absent ≡ true → plain_text kind v ≢ []) → QuoteSaid (letters (plain_text kind v))
-  held-quoted t v h a = let l = kind_laws kind in (all-taken (plain_text kind v) (t v h), l.complete v h, λ t e. cc, a)
+  held-quoted : TakesPlain s.kind s.code → (v : Value) → HoldsKind s.kind v → (is_blank s.absent ≡ true → plain_text s.kind v ≢ []) → HoldsQuoted (machine_of s) (letters (plain_text s.kind v))
+  held-quoted t v h a = let l = kind_laws s.kind in (all-taken (plain_text s.kind v) (t v h), l.complete v h, λ t e. cc, a)
 
-  module _ (name : List ℕ) where
-    abbrev pub bare : ASlot
-    bare = record { name = name; kind = kind; code = code; absent = absent; present = present; quoted = false }
+  abbrev pub bare : ASlot
+  bare = record s { quoted = false }
 
-    abbrev pub framed : ASlot
-    framed = record { name = name; kind = kind; code = code; absent = absent; present = present; quoted = true }
+  abbrev pub framed : ASlot
+  framed = record s { quoted = true }
 
-    pub bare-said : Takes → (v : Value) → Holds bare v → PlainSaid (said_of kind v)
-    bare-said t Missing h = missing-said absent present h
-    bare-said t v h = held-said t v h.0 (apart-said absent (plain_text kind v) h.1)
+  pub bare-said : TakesPlain s.kind s.code → (v : Value) → Holds bare v → HoldsSaid (machine_of s) (said_of s.kind v)
+  bare-said t Missing h = missing-said s.absent s.present h
+  bare-said t v h = held-said t v h.0 (apart-said s.absent (plain_text s.kind v) h.1)
 
-    pub bare-text : (v : Value) → Holds bare v → slot_text bare v ≡ unquoted_text (said_of kind v)
-    bare-text Missing h = missing-unquoted_text absent present h
-    bare-text v h = refl
+  pub bare-text : (v : Value) → Holds bare v → slot_text bare v ≡ said_text (machine_of s) (said_of s.kind v)
+  bare-text Missing h = missing-unquoted_text s.absent s.present h
+  bare-text v h = refl
 
-    -- what is said is a held value's
-    bare-letters : (v : Value) (cs : List ℕ) → HoldsKind kind v → plain_text kind v ≡ cs → PlainSaid (letters cs) → (u : Value) × Holds bare u × (letters cs ≡ said_of kind u)
-    bare-letters Missing cs h e s = absurd (kind-never kind h)
-    bare-letters v cs h e s = (v, (h, said-apart_plain absent (plain_text kind v) (λ t z. s.2 t (sym e ∙ z)) (λ t z. s.3 t (sym e ∙ z))), ap letters (sym e))
+  -- what is said is a held value's
+  bare-letters : (v : Value) (cs : List ℕ) → HoldsKind s.kind v → plain_text s.kind v ≡ cs → HoldsSaid (machine_of s) (letters cs) → (u : Value) × Holds bare u × (letters cs ≡ said_of s.kind u)
+  bare-letters Missing cs h e d = absurd (kind-never s.kind h)
+  bare-letters v cs h e d = (v, (h, said-apart_plain s.absent (plain_text s.kind v) (λ t z. d.2 t (sym e ∙ z)) (λ t z. d.3 t (sym e ∙ z))), ap letters (sym e))
 
-    said-bare : (u : Said) → PlainSaid u → (v : Value) × Holds bare v × (u ≡ said_of kind v)
-    said-bare nothing h = (Missing, said-missing absent present h, refl)
-    said-bare (letters cs) h = let l = kind_laws kind in let f = l.sound cs h.1 in bare-letters f.0 cs f.1 f.2 h
+  said-bare : (u : Said) → HoldsSaid (machine_of s) u → (v : Value) × Holds bare v × (u ≡ said_of s.kind v)
+  said-bare nothing h = (Missing, said-missing s.absent s.present h, refl)
+  said-bare (letters cs) h = let l = kind_laws s.kind in let f = l.sound cs h.1 in bare-letters f.0 cs f.1 f.2 h
 
-    pub framed-said : Takes → (v : Value) → Holds framed v → QuoteSaid (said_of kind v)
-    framed-said t Missing h = missing-said absent present h
-    framed-said t v h = held-quoted t v h.0 (apart-quoted absent (plain_text kind v) h.1)
+  pub framed-said : TakesPlain s.kind s.code → (v : Value) → Holds framed v → HoldsQuoted (machine_of s) (said_of s.kind v)
+  framed-said t Missing h = missing-said s.absent s.present h
+  framed-said t v h = held-quoted t v h.0 (apart-quoted s.absent (plain_text s.kind v) h.1)
 
-    pub framed-text : (v : Value) → Holds framed v → slot_text framed v ≡ quote_text (said_of kind v)
-    framed-text Missing h = missing-quoted_text absent present h
-    framed-text v h = refl
+  pub framed-text : (v : Value) → Holds framed v → slot_text framed v ≡ quoted_text (machine_of s) (said_of s.kind v)
+  framed-text Missing h = missing-quoted_text s.absent s.present h
+  framed-text v h = refl
 
-    framed-letters : (v : Value) (cs : List ℕ) → HoldsKind kind v → plain_text kind v ≡ cs → QuoteSaid (letters cs) → (u : Value) × Holds framed u × (letters cs ≡ said_of kind u)
-    framed-letters Missing cs h e s = absurd (kind-never kind h)
-    framed-letters v cs h e s = (v, (h, quoted-apart_plain absent (plain_text kind v) (λ t z. s.3 t (sym e ∙ z))), ap letters (sym e))
+  framed-letters : (v : Value) (cs : List ℕ) → HoldsKind s.kind v → plain_text s.kind v ≡ cs → HoldsQuoted (machine_of s) (letters cs) → (u : Value) × Holds framed u × (letters cs ≡ said_of s.kind u)
+  framed-letters Missing cs h e d = absurd (kind-never s.kind h)
+  framed-letters v cs h e d = (v, (h, quoted-apart_plain s.absent (plain_text s.kind v) (λ t z. d.3 t (sym e ∙ z))), ap letters (sym e))
 
-    said-framed : (u : Said) → QuoteSaid u → (v : Value) × Holds framed v × (u ≡ said_of kind v)
-    said-framed nothing h = (Missing, said-missing absent present h, refl)
-    said-framed (letters cs) h = let l = kind_laws kind in let f = l.sound cs h.1 in framed-letters f.0 cs f.1 f.2 h
+  said-framed : (u : Said) → HoldsQuoted (machine_of s) u → (v : Value) × Holds framed v × (u ≡ said_of s.kind v)
+  said-framed nothing h = (Missing, said-missing s.absent s.present h, refl)
+  said-framed (letters cs) h = let l = kind_laws s.kind in let f = l.sound cs h.1 in framed-letters f.0 cs f.1 f.2 h
 
 unsaid : (cs : List ℕ) → nothing ≡ letters cs → ⊥
 unsaid cs e = cc
@@ -198,7 +176,7 @@ said-same s v Missing h g e = absurd (unsaid (plain_text s.kind v) (sym e))
 said-same s v u h g e = same-plain s.kind v u h.0 g.0 e
 
 abbrev pub Exact : Piece → Type 0
-Exact p = IsExact PieceEnter PieceCan PieceDone PieceEmpty piece_marks HoldsPiece piece_text piece_run p
+Exact p = IsExact piece_row p
 
 literal-exact : (bytes : List ℕ) → Exact (Literal bytes)
 literal-exact bytes = record {
@@ -207,44 +185,38 @@ literal-exact bytes = record {
   apart = λ v u h g e. h ∙ sym g;
 }
 
-slot-exact : (name : List ℕ) (kind : Kind) (code : Coding) (absent : Absent) (present quoted : Bool) → Takes kind code absent present → Exact (Slot (record { name = name; kind = kind; code = code; absent = absent; present = present; quoted = quoted }))
-slot-exact name kind code absent present false t = record {
+slot-exact : (quoted : Bool) (s : ASlot) → TakesPlain s.kind s.code → Exact (Slot (record s { quoted = quoted }))
+slot-exact false s t = record {
   sound = λ w r h.
-      let g = said-sound (slot_machine kind code absent present)
-      (coding_laws code).dash (one-absence absent present) (blank-apart absent present) w r h in
-      let f = said-bare kind code absent present name g.0 g.1 in
-      (f.0, f.1, g.2 ∙ ap (unquoted_text kind code absent present) f.2 ∙ sym (bare-text kind code absent present name f.0 f.1), g.3 ∙ ap (plain_run kind code absent present) f.2);
+      let g = said-sound (machine_of s) (coding_laws s.code).dash (one-absence s.absent s.present) (blank-apart s.absent s.present) w r h in
+      let f = said-bare s g.0 g.1 in
+      (f.0, f.1, g.2 ∙ ap (said_text (machine_of s)) f.2 ∙ sym (bare-text s f.0 f.1), g.3 ∙ ap (said_run (machine_of s)) f.2);
   complete = λ v h.
-      let g = said-complete (slot_machine kind code absent present)
-      (coding_laws code).dash (one-absence absent present) (blank-apart absent present) (said_of kind v) (bare-said kind code absent present name t v h) in
-      subst (λ (x : List ℕ). IsWhole (PlainEnter kind code absent present) (PlainCan kind code absent present) (PlainDone kind code absent present) (PlainEmpty kind code absent present) x (plain_run kind code absent present (said_of kind v)))
-      (sym (bare-text kind code absent present name v h)) g;
+      let g = said-complete (machine_of s) (coding_laws s.code).dash (one-absence s.absent s.present) (blank-apart s.absent s.present) (said_of s.kind v) (bare-said s t v h) in
+      subst (λ (x : List ℕ). IsWhole (plain_part (machine_of s)) x (said_run (machine_of s) (said_of s.kind v)))
+      (sym (bare-text s v h)) g;
   apart = λ v u h g e.
-      said-same (bare kind code absent present name) v u h g
-      (said-apart (slot_machine kind code absent present)
-      (coding_laws code).dash (one-absence absent present) (blank-apart absent present) (said_of kind v) (said_of kind u) (bare-said kind code absent present name t v h) (bare-said kind code absent present name t u g) e);
+      said-same (bare s) v u h g
+      (said-apart (machine_of s) (coding_laws s.code).dash (one-absence s.absent s.present) (blank-apart s.absent s.present) (said_of s.kind v) (said_of s.kind u) (bare-said s t v h) (bare-said s t u g) e);
 }
-slot-exact name kind code absent present true t = record {
+slot-exact true s t = record {
   sound = λ w r h.
-      let g = quoted-sound (slot_machine kind code absent present)
-      (one-absence absent present) (blank-apart absent present) w r h in
-      let f = said-framed kind code absent present name g.0 g.1 in
-      (f.0, f.1, g.2 ∙ ap (quote_text kind code absent present) f.2 ∙ sym (framed-text kind code absent present name f.0 f.1), g.3 ∙ ap (quote_run kind code absent present) f.2);
+      let g = quoted-sound (machine_of s) (one-absence s.absent s.present) (blank-apart s.absent s.present) w r h in
+      let f = said-framed s g.0 g.1 in
+      (f.0, f.1, g.2 ∙ ap (quoted_text (machine_of s)) f.2 ∙ sym (framed-text s f.0 f.1), g.3 ∙ ap (quoted_run (machine_of s)) f.2);
   complete = λ v h.
-      let g = quoted-complete (slot_machine kind code absent present)
-      (one-absence absent present) (blank-apart absent present) (said_of kind v) (framed-said kind code absent present name t v h) in
-      subst (λ (x : List ℕ). IsWhole (QuoteEnter kind code absent present) (QuoteCan kind code absent present) (QuoteDone kind code absent present) ⊥ x (quote_run kind code absent present (said_of kind v)))
-      (sym (framed-text kind code absent present name v h)) g;
+      let g = quoted-complete (machine_of s) (one-absence s.absent s.present) (blank-apart s.absent s.present) (said_of s.kind v) (framed-said s t v h) in
+      subst (λ (x : List ℕ). IsWhole (framed_part (machine_of s)) x (quoted_run (machine_of s) (said_of s.kind v)))
+      (sym (framed-text s v h)) g;
   apart = λ v u h g e.
-      said-same (framed kind code absent present name) v u h g
-      (quoted-apart (slot_machine kind code absent present)
-      (one-absence absent present) (blank-apart absent present) (said_of kind v) (said_of kind u) (framed-said kind code absent present name t v h) (framed-said kind code absent present name t u g) e);
+      said-same (framed s) v u h g
+      (quoted-apart (machine_of s) (one-absence s.absent s.present) (blank-apart s.absent s.present) (said_of s.kind v) (said_of s.kind u) (framed-said s t v h) (framed-said s t u g) e);
 }
 
 pub piece-exact : (p : Piece) → KeepsPiece p → Exact p
 piece-exact (Literal bytes) t = literal-exact bytes
-piece-exact (Slot s) t = slot-exact s.name s.kind s.code s.absent s.present s.quoted t.takes
+piece-exact (Slot s) t = slot-exact s.quoted s t.takes
 
-pub all-exact : (ps : List Piece) → EachKept ps → AllExact PieceEnter PieceCan PieceDone PieceEmpty piece_marks HoldsPiece piece_text piece_run ps
+pub all-exact : (ps : List Piece) → EachKept ps → AllExact piece_row ps
 all-exact [] t = tt
 all-exact (p ∷ ps) t = (piece-exact p t.0, all-exact ps t.1)

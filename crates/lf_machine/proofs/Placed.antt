@@ -1,14 +1,11 @@
 -- Moves put one after another at a place.
 use Rattle.std.proofs.Common.{◌≡◌, ℕ, ◌+◌, ◌&&◌, List, [], ◌∷◌, ◌++◌, map, Bool, cond, refl, sym, ap, ◌∙◌, append_assoc}
+use Rattle.std.proofs.lemmas.List.{map-append}
 use Rattle.lf_core.specs.declared.marked.Move.{Move}
 use Rattle.lf_machine.specs.Places.{placed, aimed, one_move}
 use Rattle.lf_machine.specs.PlainNumbers.{redirect}
 use Rattle.lf_machine.specs.declared.place.Place.{Place}
 use Rattle.lf_machine.specs.declared.place.Aim.{Aim}
-
-pub map-join : {A B : Type 0} (f : A → B) (xs ys : List A) → map f (xs ++ ys) ≡ map f xs ++ map f ys
-map-join f [] ys = refl
-map-join {A} {B} f (x ∷ xs) ys = ap (λ (z : List B). f x ∷ z) (map-join f xs ys)
 
 aimed-map : (aim : Aim) (ms : List Move) → map (aimed aim) ms ≡ map (placed aim.place) (map (redirect aim.apart aim.lone) ms)
 aimed-map aim [] = refl
@@ -21,14 +18,14 @@ put-apart aim old mid new xs ys h g =
     g ∙ ap (λ (z : List Move). z ++ map (aimed aim) ys) h
     ∙ append_assoc old (map (placed aim.place) xs) (map (aimed aim) ys)
     ∙ ap (λ (z : List Move). old ++ (map (placed aim.place) xs ++ z)) (aimed-map aim ys)
-    ∙ ap (λ (z : List Move). old ++ z) (sym (map-join (placed aim.place) xs (map (redirect aim.apart aim.lone) ys)))
+    ∙ ap (λ (z : List Move). old ++ z) (sym (map-append (placed aim.place) xs (map (redirect aim.apart aim.lone) ys)))
 
 -- moves that are aimed at a place, one list after the other
 pub put-both : (aim : Aim) (old mid new xs ys zs : List Move) → mid ≡ old ++ map (aimed aim) xs → new ≡ mid ++ map (aimed aim) ys → ys ≡ zs → new ≡ old ++ map (aimed aim) (xs ++ zs)
 put-both aim old mid new xs ys zs h g e =
     g ∙ ap (λ (z : List Move). z ++ map (aimed aim) ys) h
     ∙ append_assoc old (map (aimed aim) xs) (map (aimed aim) ys)
-    ∙ ap (λ (z : List Move). old ++ z) (sym (map-join (aimed aim) xs ys))
+    ∙ ap (λ (z : List Move). old ++ z) (sym (map-append (aimed aim) xs ys))
     ∙ ap (λ (z : List Move). old ++ map (aimed aim) (xs ++ z)) e
 
 -- the dash of absence, and then a letter's moves

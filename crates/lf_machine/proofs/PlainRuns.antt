@@ -1,16 +1,17 @@
 -- The whole runs of a slot without quotes are those of what it says.
 use Rattle.std.proofs.Common.{◌≡◌, ◌≢◌, ℕ, ◌+◌, ◌-◌, inl, inr, List, [], ◌∷◌, ◌++◌, map, Some, Bool, true, false, cond, leb, ◌==◌, ◌&&◌, refl, sym, ap, subst, ◌∙◌, arith}
 use Rattle.std.proofs.lemmas.Bool.Decides.{nat_tests}
-use Rattle.std.proofs.lemmas.Bool.{cases_Bool}
+use Rattle.std.proofs.lemmas.Bool.{cases_Bool, and_parts}
 use Rattle.lf_core.specs.Domain.{accepts}
-use Rattle.lf_core.proofs.Accepts.{accepts-first}
+use Rattle.lf_core.specs.AcceptsLaws.{accepts-first}
 use Rattle.lf_escape.specs.Codes.{coded}
 use Rattle.lf_machine.specs.Paths.{Step, IsPath, last}
 use Rattle.lf_machine.specs.Parts.{IsWhole}
 use Rattle.lf_machine.specs.Letters.{At, letter_step, CanStep, IsDone, AllTaken, word_run, letters_run}
 use Rattle.lf_machine.proofs.LetterRuns.{letters_run-first, Spells, letters-sound, letters-complete}
-use Rattle.lf_machine.specs.Unquoted.{Said, nothing, letters, Within, inside, missing, lone, wrap, marks_in, dashed, wrap_first as wrap_first_of, SlotEnter as SlotEnter_of, SlotCan as SlotCan_of, SlotDone as SlotDone_of, SlotEmpty as SlotEmpty_of, HoldsSaid as HoldsSaid_of, said_text as said_text_of, start_run as start_run_of, said_run as said_run_of}
+use Rattle.lf_machine.specs.Unquoted.{Said, nothing, letters, Within, inside, missing, lone, wrap, marks_in, dashed, wrap_first, SlotCan, SlotDone, HoldsSaid, said_text, start_run, said_run, plain_part}
 use Rattle.lf_machine.specs.SlotMachine.{SlotMachine}
+use Rattle.lf_machine.proofs.SlotOrder.{no-dash}
 
 pub wrap-marks : (ks : List (Step At)) → marks_in (map wrap ks) ≡ marks_in ks
 wrap-marks [] = refl
@@ -20,19 +21,11 @@ never-missing : (b : Bool) (s : At) → missing ≡ cond b lone (inside s) → �
 never-missing true s e = cc
 never-missing false s e = cc
 
-pub none-left : (k : Step At) (ks : List (Step At)) → k ∷ ks ≡ [] → ⊥
-none-left k ks e = cc
-
-pub and-left : (a b : Bool) → a && b ≡ true → a ≡ true
-and-left true b e = refl
-and-left false b e = cc
-
-pub and-right : (a b : Bool) → a && b ≡ true → b ≡ true
-and-right true b e = e
-and-right false b e = cc
-
 not-lone : (a : Bool) (m : ℕ) → a ≡ true → a && (m == 48) ≡ false → m ≡ 48 → ⊥
 not-lone a m h f e = grind (arith, nat_tests)
+
+pub not-empty : {A : Type 0} (b : A) (line : List A) → b ∷ line ≡ [] → ⊥
+not-empty b line e = cc
 
 -- the letters that marks tell
 abbrev pub spell : List ℕ → List ℕ
@@ -44,9 +37,6 @@ not-both-marks m e h = grind (arith, nat_tests)
 
 dash-mark : (m c : ℕ) → m ≡ 3 + c → (m == 48) ≡ true → c ≡ 45
 dash-mark m c e h = grind (arith, nat_tests)
-
-pub not-empty : (b : ℕ) (line : List ℕ) → b ∷ line ≡ [] → ⊥
-not-empty b line e = cc
 
 pub true-false : {b : Bool} → b ≡ true → b ≡ false → ⊥
 true-false {b} t f = cc
@@ -71,33 +61,6 @@ module _ (sm : SlotMachine) where
       rw (letters_run-first sm q c f.0 w.0 w.1 cs f.1 w.2)
       (spell-word w.1 q f.0 c w.0 [] (letters_run sm f.0 cs) ∙ ap (λ (x : List ℕ). c ∷ x) (spell-letters cs f.0 t.1 f.2))
 
-  abbrev wrap_first : Step At → Step Within
-  wrap_first = wrap_first_of sm
-
-  abbrev SlotEnter : ℕ → Step Within → Type 0
-  SlotEnter = SlotEnter_of sm
-
-  abbrev SlotCan : Within → ℕ → Step Within → Type 0
-  SlotCan = SlotCan_of sm
-
-  abbrev SlotDone : Within → Type 0
-  SlotDone = SlotDone_of sm
-
-  abbrev SlotEmpty : Type 0
-  SlotEmpty = SlotEmpty_of sm
-
-  abbrev HoldsSaid : Said → Type 0
-  HoldsSaid = HoldsSaid_of sm
-
-  abbrev said_text : Said → List ℕ
-  said_text = said_text_of sm
-
-  abbrev start_run : List (Step At) → List (Step Within)
-  start_run = start_run_of sm
-
-  abbrev said_run : Said → List (Step Within)
-  said_run = said_run_of sm
-
   -- a path among letters
   pub record Unwrapped (s : At) (line : List ℕ) (run : List (Step Within)) : Type 0 where
     pub steps : List (Step At)
@@ -113,22 +76,22 @@ module _ (sm : SlotMachine) where
     done = u.done;
   }
 
-  unwrap : (line : List ℕ) (run : List (Step Within)) (s : At) → IsPath SlotCan (inside s) line run → SlotDone (last (inside s) run) → Unwrapped s line run
+  unwrap : (line : List ℕ) (run : List (Step Within)) (s : At) → IsPath (SlotCan sm) (inside s) line run → SlotDone sm (last (inside s) run) → Unwrapped s line run
   unwrap [] [] s p d = record { steps = []; same = refl; path = tt; done = d }
   unwrap [] (m ∷ run) s p d = absurd p
   unwrap (b ∷ line) [] s p d = absurd p
   unwrap (b ∷ line) (m ∷ run) s p d =
-      let q : IsPath SlotCan (inside p.0.0.to) line run = rw (p.0.2) at p.1 in
-      let f : SlotDone (last (inside p.0.0.to) run) = rw (p.0.2) at d in
+      let q : IsPath (SlotCan sm) (inside p.0.0.to) line run = rw (p.0.2) at p.1 in
+      let f : SlotDone sm (last (inside p.0.0.to) run) = rw (p.0.2) at d in
       unwrap-step b line run s m p.0.0 p.0.1 p.0.2 (unwrap line run p.0.0.to q f)
 
-  wrap-path : (line : List ℕ) (ks : List (Step At)) (s : At) → IsPath (CanStep sm) s line ks → IsDone sm (last s ks) → IsPath SlotCan (inside s) line (map wrap ks) × SlotDone (last (inside s) (map wrap ks))
+  wrap-path : (line : List ℕ) (ks : List (Step At)) (s : At) → IsPath (CanStep sm) s line ks → IsDone sm (last s ks) → IsPath (SlotCan sm) (inside s) line (map wrap ks) × SlotDone sm (last (inside s) (map wrap ks))
   wrap-path [] [] s p d = (tt, d)
   wrap-path [] (k ∷ ks) s p d = absurd p
   wrap-path (b ∷ line) [] s p d = absurd p
   wrap-path (b ∷ line) (k ∷ ks) s p d = let r = wrap-path line ks k.to p.1 d in (((k, p.0, refl), r.0), r.1)
 
-  at-missing : (line : List ℕ) (run : List (Step Within)) → IsPath SlotCan missing line run → (line ≡ []) × (run ≡ [])
+  at-missing : (line : List ℕ) (run : List (Step Within)) → IsPath (SlotCan sm) missing line run → (line ≡ []) × (run ≡ [])
   at-missing [] [] p = (refl, refl)
   at-missing [] (m ∷ run) p = absurd p
   at-missing (b ∷ line) [] p = absurd p
@@ -149,9 +112,6 @@ module _ (sm : SlotMachine) where
       ]
 
   module _ (dash_word : sm.takes 45 ≡ true → sm.word 45 ≡ 45 ∷ []) (one : sm.dash ≡ true → sm.blank ≡ true → ⊥) (blank_apart : sm.blank ≡ true → sm.apart_blank ≡ true) where
-    blank-no_dash : sm.blank ≡ true → sm.dash ≡ false
-    blank-no_dash h = elim (cases_Bool sm.dash) [ inl d ↦ absurd (one d h) | inr d ↦ d ]
-
     -- the run of a lone dash ends with its mark
     lone-run : (cs : List ℕ) (k : Step At) (ks : List (Step At)) → AllTaken sm cs → accepts sm.next sm.ends sm.first cs ≡ true → k ∷ ks ≡ letters_run sm sm.first cs → cs ≡ 45 ∷ [] → (k.mark ≡ 48) × (ks ≡ [])
     lone-run [] k ks t a e h = cc
@@ -167,12 +127,12 @@ module _ (sm : SlotMachine) where
         (ap (λ (x : Step At). x.mark) k_is ∙ ap (λ (x : ℕ). 3 + x) c_is, ks_is ∙ ap (λ (x : List ℕ). letters_run sm f.0 x) cs_is)
 
     said-letters : (b : ℕ) (line : List ℕ) (k : Step At) (ks : List (Step At)) (sp : Spells sm sm.first (b ∷ line) (k ∷ ks)) →
-        (sm.apart_dash ≡ true → sp.letters ≢ 45 ∷ []) → (v : Said) × HoldsSaid v × (b ∷ line ≡ said_text v) × (wrap_first k ∷ map wrap ks ≡ said_run v)
+        (sm.apart_dash ≡ true → sp.letters ≢ 45 ∷ []) → (v : Said) × HoldsSaid sm v × (b ∷ line ≡ said_text sm v) × (wrap_first sm k ∷ map wrap ks ≡ said_run sm v)
     said-letters b line k ks sp d =
-        (letters sp.letters, (sp.taken, sp.held, d, λ t e. not-empty b line (sp.text ∙ ap (coded sm.word) e)), sp.text, ap start_run sp.steps)
+        (letters sp.letters, (sp.taken, sp.held, d, λ t e. not-empty b line (sp.text ∙ ap (coded sm.word) e)), sp.text, ap (start_run sm) sp.steps)
 
     said-lone : (b : ℕ) (line : List ℕ) (run : List (Step Within)) (k : Step At) → CanStep sm (record { point = sm.first; begun = [] }) b k → (k.mark == 48) ≡ true →
-        IsPath SlotCan lone line run → SlotDone (last lone run) → (v : Said) × HoldsSaid v × (b ∷ line ≡ said_text v) × (wrap_first k ∷ run ≡ said_run v)
+        IsPath (SlotCan sm) lone line run → SlotDone sm (last lone run) → (v : Said) × HoldsSaid sm v × (b ∷ line ≡ said_text sm v) × (wrap_first sm k ∷ run ≡ said_run sm v)
     said-lone b [] [] k c h p d = absurd d
     said-lone b [] (m ∷ run) k c h p d = absurd p
     said-lone b (x ∷ line) [] k c h p d = absurd p
@@ -184,17 +144,17 @@ module _ (sm : SlotMachine) where
         let q_is : ds.0 ≡ q = cc in
         let kt : k.to ≡ record { point = q; begun = [] } = ap (λ (z : Step At). z.to) ds.2 ∙ ap (λ (z : ℕ). let a : At = record { point = z; begun = [] } in a) q_is in
         let c2 : CanStep sm k.to x k2 = rw kt p.0.3 in
-        let p2 : IsPath SlotCan (inside k2.to) line run = rw (p.0.4) at p.1 in
-        let d2 : SlotDone (last (inside k2.to) run) = rw (p.0.4) at d in
+        let p2 : IsPath (SlotCan sm) (inside k2.to) line run = rw (p.0.4) at p.1 in
+        let d2 : SlotDone sm (last (inside k2.to) run) = rw (p.0.4) at d in
         let u = unwrap line run k2.to p2 d2 in
         let sp = letters-sound sm sm.first (b ∷ x ∷ line) (k ∷ k2 ∷ u.steps) (c, (c2, u.path)) u.done in
-        let r = said-letters b (x ∷ line) k (k2 ∷ u.steps) sp (λ t z. none-left k2 u.steps (lone-run sp.letters k (k2 ∷ u.steps) sp.taken sp.held sp.steps z).1) in
-        (r.0, r.1, r.2, ap (λ (z : Step Within). wrap_first k ∷ z ∷ run) p.0.4 ∙ ap (λ (z : List (Step Within)). wrap_first k ∷ wrap k2 ∷ z) u.same ∙ r.3)
+        let r = said-letters b (x ∷ line) k (k2 ∷ u.steps) sp (λ t z. not-empty k2 u.steps (lone-run sp.letters k (k2 ∷ u.steps) sp.taken sp.held sp.steps z).1) in
+        (r.0, r.1, r.2, ap (λ (z : Step Within). wrap_first sm k ∷ z ∷ run) p.0.4 ∙ ap (λ (z : List (Step Within)). wrap_first sm k ∷ wrap k2 ∷ z) u.same ∙ r.3)
 
-    pub said-sound : (line : List ℕ) (run : List (Step Within)) → IsWhole SlotEnter SlotCan SlotDone SlotEmpty line run → (v : Said) × HoldsSaid v × (line ≡ said_text v) × (run ≡ said_run v)
+    pub said-sound : (line : List ℕ) (run : List (Step Within)) → IsWhole (plain_part sm) line run → (v : Said) × HoldsSaid sm v × (line ≡ said_text sm v) × (run ≡ said_run sm v)
     said-sound [] [] h =
         elim h [
-          | inl b ↦ (nothing, inr b, ap (λ (x : Bool). cond {A = List ℕ} x (45 ∷ []) []) (sym (blank-no_dash b)), ap (λ (x : Bool). cond {A = List (Step Within)} x (dashed ∷ []) []) (sym (blank-no_dash b)))
+          | inl b ↦ (nothing, inr b, ap (λ (x : Bool). cond {A = List ℕ} x (45 ∷ []) []) (sym (no-dash sm.dash sm.blank one b)), ap (λ (x : Bool). cond {A = List (Step Within)} x (dashed ∷ []) []) (sym (no-dash sm.dash sm.blank one b)))
           | inr e ↦ (letters [], (tt, e.1, λ t x. cc, λ t x. true-false t e.0), refl, refl)
         ]
     said-sound [] (m ∷ run) h = absurd h
@@ -202,7 +162,7 @@ module _ (sm : SlotMachine) where
     said-sound (b ∷ line) (m ∷ run) h =
         elim h.0 [
           | inl d ↦
-              let p : IsPath SlotCan missing line run = rw (d.2) at h.1 in
+              let p : IsPath (SlotCan sm) missing line run = rw (d.2) at h.1 in
               let e = at-missing line run p in (
                 nothing,
                 inl d.0,
@@ -213,23 +173,23 @@ module _ (sm : SlotMachine) where
               elim (cases_Bool (sm.apart_dash && k.0.mark == 48)) [
                 | inl t ↦
                     let q : m.to ≡ lone = ap (λ (x : Step Within). x.to) k.2 ∙ ap (λ (x : Bool). cond {A = Within} x lone (inside k.0.to)) t in
-                    let p : IsPath SlotCan lone line run = rw q at h.1 in
-                    let d : SlotDone (last lone run) = rw q at h.2 in
-                    let r = said-lone b line run k.0 k.1 (and-right sm.apart_dash (k.0.mark == 48) t) p d in
+                    let p : IsPath (SlotCan sm) lone line run = rw q at h.1 in
+                    let d : SlotDone sm (last lone run) = rw q at h.2 in
+                    let r = said-lone b line run k.0 k.1 (and_parts sm.apart_dash (k.0.mark == 48) t).1 p d in
                     (r.0, r.1, r.2, ap (λ (x : Step Within). x ∷ run) k.2 ∙ r.3)
                 | inr t ↦
                     let q : m.to ≡ inside k.0.to = ap (λ (x : Step Within). x.to) k.2 ∙ ap (λ (x : Bool). cond {A = Within} x lone (inside k.0.to)) t in
-                    let p : IsPath SlotCan (inside k.0.to) line run = rw q at h.1 in
-                    let d : SlotDone (last (inside k.0.to) run) = rw q at h.2 in
+                    let p : IsPath (SlotCan sm) (inside k.0.to) line run = rw q at h.1 in
+                    let d : SlotDone sm (last (inside k.0.to) run) = rw q at h.2 in
                     let u = unwrap line run k.0.to p d in
                     let sp = letters-sound sm sm.first (b ∷ line) (k.0 ∷ u.steps) (k.1, u.path) u.done in
                     let r = said-letters b line k.0 u.steps sp (λ y z. not-lone sm.apart_dash k.0.mark y t (lone-run sp.letters k.0 u.steps sp.taken sp.held sp.steps z).0) in
-                    (r.0, r.1, r.2, ap (λ (x : Step Within). x ∷ run) k.2 ∙ ap (λ (x : List (Step Within)). wrap_first k.0 ∷ x) u.same ∙ r.3)
+                    (r.0, r.1, r.2, ap (λ (x : Step Within). x ∷ run) k.2 ∙ ap (λ (x : List (Step Within)). wrap_first sm k.0 ∷ x) u.same ∙ r.3)
               ]
         ]
 
-    lone-whole : (cs line : List ℕ) (ks : List (Step At)) (q : ℕ) → HoldsSaid (letters cs) → (k : Step At) → cs ≡ spell (k.mark ∷ marks_in ks) → sm.apart_dash ≡ true → sm.next sm.first 45 ≡ Some q → k ≡ letter_step 45 q →
-        IsPath (CanStep sm) k.to line ks → IsDone sm (last k.to ks) → IsPath SlotCan lone line (map wrap ks) × SlotDone (last lone (map wrap ks))
+    lone-whole : (cs line : List ℕ) (ks : List (Step At)) (q : ℕ) → HoldsSaid sm (letters cs) → (k : Step At) → cs ≡ spell (k.mark ∷ marks_in ks) → sm.apart_dash ≡ true → sm.next sm.first 45 ≡ Some q → k ≡ letter_step 45 q →
+        IsPath (CanStep sm) k.to line ks → IsDone sm (last k.to ks) → IsPath (SlotCan sm) lone line (map wrap ks) × SlotDone sm (last lone (map wrap ks))
     lone-whole cs [] [] q h k z y n e p d = absurd (h.2 y (z ∙ ap (λ (x : Step At). spell (x.mark ∷ [])) e))
     lone-whole cs [] (x ∷ ks) q h k z y n e p d = absurd p
     lone-whole cs (b ∷ line) [] q h k z y n e p d = absurd p
@@ -238,9 +198,9 @@ module _ (sm : SlotMachine) where
         let r = wrap-path line ks x.to p.1 d in
         (((q, x, n, c, refl), r.0), r.1)
 
-    letters-whole : (cs line : List ℕ) (ks : List (Step At)) → HoldsSaid (letters cs) → ks ≡ letters_run sm sm.first cs →
+    letters-whole : (cs line : List ℕ) (ks : List (Step At)) → HoldsSaid sm (letters cs) → ks ≡ letters_run sm sm.first cs →
         IsPath (CanStep sm) (record { point = sm.first; begun = [] }) line ks → IsDone sm (last (record { point = sm.first; begun = [] }) ks) →
-        IsWhole SlotEnter SlotCan SlotDone SlotEmpty line (start_run ks)
+        IsWhole (plain_part sm) line (start_run sm ks)
     letters-whole cs [] [] h e p d =
         let z : [] ≡ cs = ap (λ (x : List (Step At)). spell (marks_in x)) e ∙ spell-letters cs sm.first h.0 h.1 in
         inr (elim (cases_Bool sm.apart_blank) [ inl t ↦ absurd (h.3 t (sym z)) | inr t ↦ t ], d.1)
@@ -249,50 +209,50 @@ module _ (sm : SlotMachine) where
     letters-whole cs (b ∷ line) (k ∷ ks) h e p d =
         elim (cases_Bool (sm.apart_dash && k.mark == 48)) [
           | inl t ↦
-              let q : (wrap_first k).to ≡ lone = ap (λ (x : Bool). cond {A = Within} x lone (inside k.to)) t in
-              let ds = dash-step (record { point = sm.first; begun = [] }) b k p.0 (and-right sm.apart_dash (k.mark == 48) t) in
-              let r = lone-whole cs line ks ds.0 h k (sym (ap (λ (x : List (Step At)). spell (marks_in x)) e ∙ spell-letters cs sm.first h.0 h.1)) (and-left sm.apart_dash (k.mark == 48) t) ds.1 ds.2 p.1 d in
+              let q : (wrap_first sm k).to ≡ lone = ap (λ (x : Bool). cond {A = Within} x lone (inside k.to)) t in
+              let ds = dash-step (record { point = sm.first; begun = [] }) b k p.0 (and_parts sm.apart_dash (k.mark == 48) t).1 in
+              let r = lone-whole cs line ks ds.0 h k (sym (ap (λ (x : List (Step At)). spell (marks_in x)) e ∙ spell-letters cs sm.first h.0 h.1)) (and_parts sm.apart_dash (k.mark == 48) t).0 ds.1 ds.2 p.1 d in
               (inr (k, p.0, refl), rw q r.0, rw q r.1)
           | inr t ↦
-              let q : (wrap_first k).to ≡ inside k.to = ap (λ (x : Bool). cond {A = Within} x lone (inside k.to)) t in
+              let q : (wrap_first sm k).to ≡ inside k.to = ap (λ (x : Bool). cond {A = Within} x lone (inside k.to)) t in
               let r = wrap-path line ks k.to p.1 d in
               (inr (k, p.0, refl), rw q r.0, rw q r.1)
         ]
 
-    pub said-complete : (v : Said) → HoldsSaid v → IsWhole SlotEnter SlotCan SlotDone SlotEmpty (said_text v) (said_run v)
+    pub said-complete : (v : Said) → HoldsSaid sm v → IsWhole (plain_part sm) (said_text sm v) (said_run sm v)
     said-complete nothing h =
         elim h [
-          | inl d ↦ subst (λ (x : Bool). IsWhole SlotEnter SlotCan SlotDone SlotEmpty (cond x (45 ∷ []) []) (cond x (dashed ∷ []) [])) (sym d) (inl (d, refl, refl), tt, tt)
-          | inr b ↦ subst (λ (x : Bool). IsWhole SlotEnter SlotCan SlotDone SlotEmpty (cond x (45 ∷ []) []) (cond x (dashed ∷ []) [])) (sym (blank-no_dash b)) (inl b)
+          | inl d ↦ subst (λ (x : Bool). IsWhole (plain_part sm) (cond x (45 ∷ []) []) (cond x (dashed ∷ []) [])) (sym d) (inl (d, refl, refl), tt, tt)
+          | inr b ↦ subst (λ (x : Bool). IsWhole (plain_part sm) (cond x (45 ∷ []) []) (cond x (dashed ∷ []) [])) (sym (no-dash sm.dash sm.blank one b)) (inl b)
         ]
     said-complete (letters cs) h =
         let g = letters-complete sm cs sm.first h.0 h.1 in
         letters-whole cs (coded sm.word cs) (letters_run sm sm.first cs) h refl g.0 g.1
 
-    pub start-marks : (ks : List (Step At)) → marks_in (start_run ks) ≡ marks_in ks
+    pub start-marks : (ks : List (Step At)) → marks_in (start_run sm ks) ≡ marks_in ks
     start-marks [] = refl
     start-marks (k ∷ ks) = ap (λ (x : List ℕ). k.mark ∷ x) (wrap-marks ks)
 
-    pub run-letters : (cs : List ℕ) → HoldsSaid (letters cs) → spell (marks_in (said_run (letters cs))) ≡ cs
+    pub run-letters : (cs : List ℕ) → HoldsSaid sm (letters cs) → spell (marks_in (said_run sm (letters cs))) ≡ cs
     run-letters cs h = ap spell (start-marks (letters_run sm sm.first cs)) ∙ spell-letters cs sm.first h.0 h.1
 
-    nothing-apart : (ks : List (Step At)) → dashed ∷ [] ≡ start_run ks → ⊥
+    nothing-apart : (ks : List (Step At)) → dashed ∷ [] ≡ start_run sm ks → ⊥
     nothing-apart [] e = cc
     nothing-apart (k ∷ ks) e =
-        let g : dashed ≡ wrap_first k = cc in
+        let g : dashed ≡ wrap_first sm k = cc in
         let t : missing ≡ cond (sm.apart_dash && k.mark == 48) lone (inside k.to) = ap (λ (x : Step Within). x.to) g in
         never-missing (sm.apart_dash && k.mark == 48) k.to t
 
-    nothing-letters : (cs : List ℕ) → HoldsSaid nothing → HoldsSaid (letters cs) → said_run nothing ≡ said_run (letters cs) → ⊥
+    nothing-letters : (cs : List ℕ) → HoldsSaid sm nothing → HoldsSaid sm (letters cs) → said_run sm nothing ≡ said_run sm (letters cs) → ⊥
     nothing-letters cs h g e =
         elim h [
           | inl d ↦ nothing-apart (letters_run sm sm.first cs) (ap (λ (x : Bool). cond {A = List (Step Within)} x (dashed ∷ []) []) (sym d) ∙ e)
           | inr b ↦
-              let r : [] ≡ said_run (letters cs) = ap (λ (x : Bool). cond {A = List (Step Within)} x (dashed ∷ []) []) (sym (blank-no_dash b)) ∙ e in
+              let r : [] ≡ said_run sm (letters cs) = ap (λ (x : Bool). cond {A = List (Step Within)} x (dashed ∷ []) []) (sym (no-dash sm.dash sm.blank one b)) ∙ e in
               g.3 (blank_apart b) (sym (ap (λ (x : List (Step Within)). spell (marks_in x)) r ∙ run-letters cs g))
         ]
 
-    pub said-apart : (v u : Said) → HoldsSaid v → HoldsSaid u → said_run v ≡ said_run u → v ≡ u
+    pub said-apart : (v u : Said) → HoldsSaid sm v → HoldsSaid sm u → said_run sm v ≡ said_run sm u → v ≡ u
     said-apart nothing nothing h g e = refl
     said-apart nothing (letters ds) h g e = absurd (nothing-letters ds h g e)
     said-apart (letters cs) nothing h g e = absurd (nothing-letters cs g h (sym e))

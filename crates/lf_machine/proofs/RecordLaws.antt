@@ -8,7 +8,7 @@ use Rattle.lf_format.specs.declared.format.Piece.{Piece}
 use Rattle.lf_format.specs.declared.format.Piece.TheVariants.{Literal, Slot}
 use Rattle.lf_machine.specs.Paths.{Step}
 use Rattle.lf_machine.proofs.RowRuns.{row-sound, row-complete, row-apart}
-use Rattle.lf_machine.specs.Pieces.{PieceEnter, PieceCan, PieceDone, PieceEmpty, piece_marks, HoldsPiece, piece_text, piece_run}
+use Rattle.lf_machine.specs.Pieces.{piece_text, piece_row}
 use Rattle.lf_machine.proofs.PieceRuns.{all-exact}
 use Rattle.lf_machine.specs.Records.{LineState, LineFilled, pieces_text, pieces_run, spread, record_steps, IsWholeLine}
 
@@ -48,16 +48,16 @@ spread-apart (Slot s ∷ ps) (v ∷ rec) (u ∷ other) h g e =
 
 pub steps-sound : (ps : List Piece) → EachKept ps → (w : List ℕ) (r : List (Step (LineState ps))) → IsWholeLine ps w r → (rec : List Value) × IsRecordOf ps rec × (w ≡ line_text ps rec) × (r ≡ record_steps ps rec)
 steps-sound ps t w r h =
-    let f = row-sound PieceEnter PieceCan PieceDone PieceEmpty piece_marks HoldsPiece piece_text piece_run ps (all-exact ps t) w r h in
+    let f = row-sound piece_row ps (all-exact ps t) w r h in
     let g = gather ps f.0 f.1 in
     (g.0, g.1, f.2 ∙ ap (pieces_text ps) g.2 ∙ spread-text ps g.0 g.1, f.3 ∙ ap (pieces_run ps) g.2)
 
 pub steps-complete : (ps : List Piece) → EachKept ps → (rec : List Value) → IsRecordOf ps rec → IsWholeLine ps (line_text ps rec) (record_steps ps rec)
 steps-complete ps t rec h =
     subst (λ (x : List ℕ). IsWholeLine ps x (record_steps ps rec)) (spread-text ps rec h)
-    (row-complete PieceEnter PieceCan PieceDone PieceEmpty piece_marks HoldsPiece piece_text piece_run ps (all-exact ps t) (spread ps rec) (spread-filled ps rec h))
+    (row-complete piece_row ps (all-exact ps t) (spread ps rec) (spread-filled ps rec h))
 
 pub steps-apart : (ps : List Piece) → EachKept ps → (rec other : List Value) → IsRecordOf ps rec → IsRecordOf ps other → record_steps ps rec ≡ record_steps ps other → rec ≡ other
 steps-apart ps t rec other h g e =
     spread-apart ps rec other h g
-    (row-apart PieceEnter PieceCan PieceDone PieceEmpty piece_marks HoldsPiece piece_text piece_run ps (all-exact ps t) (spread ps rec) (spread ps other) (spread-filled ps rec h) (spread-filled ps other g) e)
+    (row-apart piece_row ps (all-exact ps t) (spread ps rec) (spread ps other) (spread-filled ps rec h) (spread-filled ps other g) e)

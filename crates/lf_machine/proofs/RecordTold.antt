@@ -17,19 +17,15 @@ use Rattle.lf_machine.specs.Numbered.{numbered}
 use Rattle.lf_machine.specs.Parts.{late, joined}
 use Rattle.lf_machine.specs.Paths.{Step}
 use Rattle.lf_machine.proofs.PieceOrder.{PieceLess, all-ordered}
-use Rattle.lf_machine.specs.Pieces.{PieceEnter, PieceCan, PieceDone, PieceEmpty, piece_marks, HoldsPiece, piece_text, piece_run, slot_run}
-use Rattle.lf_machine.specs.Records.{LineState, LineEnter, LineCan, LineDone, LineEmpty, record_steps, spread}
+use Rattle.lf_machine.specs.Pieces.{slot_run, piece_row}
+use Rattle.lf_machine.specs.Records.{LineState, record_steps, spread}
 use Rattle.lf_machine.proofs.RecordLaws.{spread-filled}
 use Rattle.lf_machine.specs.Rows.{marks_of}
-use Rattle.lf_machine.proofs.RowRuns.{AllBelow, row-below}
+use Rattle.lf_machine.proofs.RowRuns.{row-below}
 use Rattle.lf_machine.specs.Runs.{HasRuns, IsRecordOfRun}
 use Rattle.lf_machine.specs.Unquoted.{Within, marks_in}
-
-abbrev raised : ℕ → List ℕ → List ℕ
-raised above ks = map (λ k. above + k) ks
-
-abbrev move_marks : List Move → List ℕ
-move_marks moves = map (λ m. m.mark) moves
+use Rattle.lf_machine.proofs.ToldLaws.{raised, move_marks}
+use Rattle.lf_machine.proofs.Joins.{AllLow}
 
 abbrev AllUnder : ℕ → List ℕ → Type 0
 AllUnder above [] = Unit {0}
@@ -80,19 +76,9 @@ cut-at above n moves front back own later e u is f b =
       rest = ap move_marks (b ∙ ap (λ (i : ℕ). drop i moves) k) ∙ r.1;
     }
 
-abbrev row_marks : List Piece → ℕ
-row_marks = marks_of PieceEnter PieceCan PieceDone PieceEmpty piece_marks HoldsPiece piece_text piece_run
-
-abbrev Under : {T : Type 0} → ℕ → List (Step T) → Type 0
-Under = AllBelow PieceEnter PieceCan PieceDone PieceEmpty piece_marks HoldsPiece piece_text piece_run
-
-under-marks : {T : Type 0} (above : ℕ) (run : List (Step T)) → Under above run → AllUnder above (marks_in run)
+under-marks : {T : Type 0} (above : ℕ) (run : List (Step T)) → AllLow above run → AllUnder above (marks_in run)
 under-marks above [] h = tt
 under-marks above (m ∷ run) h = (h.0, under-marks above run h.1)
-
-marks-row : (ps : List Piece) → row_marks ps ≡ line_marks ps
-marks-row [] = refl
-marks-row (p ∷ ps) = ap (λ (n : ℕ). 259 + n) (marks-row ps)
 
 late-marks : (ps : List Piece) (run : List (Step (LineState ps))) → marks_in (map (late {S = Within}) run) ≡ marks_in run
 late-marks ps [] = refl
@@ -100,22 +86,22 @@ late-marks ps (m ∷ run) = ap (λ (x : List ℕ). m.mark ∷ x) (late-marks ps 
 
 -- the marks of a run are those of the first piece, raised, and then those of the others
 joined-marks : (p : Piece) (ps : List Piece) (above : ℕ) (own : List (Step Within)) (later : List (Step (LineState ps))) →
-    marks_in (joined above (PieceEnter p) (PieceCan p) (PieceDone p) (PieceEmpty p) (LineEnter ps) (LineCan ps) (LineDone ps) (LineEmpty ps) own later) ≡ raised above (marks_in own) ++ marks_in later
+    marks_in (joined above own later) ≡ raised above (marks_in own) ++ marks_in later
 joined-marks p ps above [] later = late-marks ps later
 joined-marks p ps above (m ∷ own) later = ap (λ (x : List ℕ). (above + m.mark) ∷ x) (joined-marks p ps above own later)
 
 later-under : (ps : List Piece) (above : ℕ) (rec : List Value) → above ≡ line_marks ps → EachKept ps → IsRecordOf ps rec → AllUnder above (marks_in (record_steps ps rec))
 later-under ps above rec e k h =
-    let low = row-below PieceEnter PieceCan PieceDone PieceEmpty piece_marks HoldsPiece piece_text piece_run PieceLess ps (all-ordered ps k) (spread ps rec) (spread-filled ps rec h) in
-    subst (λ (n : ℕ). AllUnder n (marks_in (record_steps ps rec))) (marks-row ps ∙ sym e) (under-marks (row_marks ps) (record_steps ps rec) low)
+    let low = row-below piece_row PieceLess ps (all-ordered ps k) (spread ps rec) (spread-filled ps rec h) in
+    subst (λ (n : ℕ). AllUnder n (marks_in (record_steps ps rec))) (sym e) (under-marks (marks_of piece_row ps) (record_steps ps rec) low)
 
 -- the first piece's marks, raised, and then the others'
 first-marks : (p : Piece) (ps : List Piece) (above : ℕ) (own : List (Step Within)) (rec : List Value) (moves : List Move) → above ≡ line_marks ps →
-    move_marks moves ≡ marks_in (joined (row_marks ps) (PieceEnter p) (PieceCan p) (PieceDone p) (PieceEmpty p) (LineEnter ps) (LineCan ps) (LineDone ps) (LineEmpty ps) own (record_steps ps rec)) →
+    move_marks moves ≡ marks_in (joined (marks_of piece_row ps) own (record_steps ps rec)) →
     move_marks moves ≡ raised above (marks_in own) ++ marks_in (record_steps ps rec)
 first-marks p ps above own rec moves e h =
-    h ∙ joined-marks p ps (row_marks ps) own (record_steps ps rec)
-    ∙ ap (λ (n : ℕ). raised n (marks_in own) ++ marks_in (record_steps ps rec)) (marks-row ps ∙ sym e)
+    h ∙ joined-marks p ps (marks_of piece_row ps) own (record_steps ps rec)
+    ∙ ap (λ (n : ℕ). raised n (marks_in own) ++ marks_in (record_steps ps rec)) (sym e)
 
 -- What is known where the moves are cut before those of the later pieces.
 pub record IsFirstCut (parts : List Piece) (p : Piece) (ps : List Piece) (above : ℕ) (moves front back : List Move) : Type 0 where

@@ -9,7 +9,8 @@ use Rattle.lf_format.specs.declared.format.Piece.TheVariants.{Literal, Slot}
 use Rattle.lf_machine.specs.PieceNumbers.{slot_count, piece_count}
 use Rattle.lf_code_table.specs.Table.{table_of}
 use Rattle.lf_machine.specs.LineMachine.{line_points}
-use Rattle.lf_format.specs.Size.{prefixes_of, piece_size, pieces_size, size_of}
+use Rattle.lf_escape.specs.Codings.{prefixes_of}
+use Rattle.lf_format.specs.Size.{piece_size, pieces_size, size_of}
 use Rattle.lf_code_table.proofs.TableSizes.{prefix-count}
 
 slot-small : (q : Bool) (s : ASlot) → slot_count q s ≤ (kind_machine s.kind).count * length (table_of s.code) + 3

@@ -1,8 +1,7 @@
 -- Of two runs of a slot with quotes the lesser says the lesser.
-use Rattle.std.proofs.Common.{◌≡◌, ℕ, ◌<◌, ◌≤◌, ◌⊎◌, inl, inr, List, [], ◌∷◌, ◌++◌, map, Bool, true, false, cond, refl, sym, ap, ◌∙◌, arith, append_assoc}
-use Rattle.std.proofs.lemmas.Bool.{cases_Bool}
+use Rattle.std.proofs.Common.{◌≡◌, ℕ, ◌<◌, ◌⊎◌, inl, inr, List, [], ◌∷◌, ◌++◌, map, Bool, true, false, cond, refl, sym, ap, ◌∙◌, arith, append_assoc}
 use Rattle.lf_core.specs.Domain.{accepts}
-use Rattle.lf_core.proofs.Accepts.{accepts-first}
+use Rattle.lf_core.specs.AcceptsLaws.{accepts-first}
 use Rattle.lf_escape.specs.Codes.{coded}
 use Rattle.lf_machine.specs.Paths.{Step, Before}
 use Rattle.lf_machine.specs.Letters.{At, AllTaken, word_run, letters_run}
@@ -12,14 +11,22 @@ use Rattle.lf_machine.specs.RecordOrder.{IsTextLess}
 use Rattle.lf_machine.specs.Unquoted.{Said, nothing, letters, Within, inside, missing, lone, opened, closed, left, wrap}
 use Rattle.lf_machine.specs.Quoted.{opening, closing, HoldsQuoted, quoted_text, quoted_run}
 use Rattle.lf_machine.specs.SlotMachine.{SlotMachine}
+use Rattle.lf_machine.proofs.Joins.{step-same, AllLow, AllHigh}
 
-abbrev pub AllLow : {T : Type 0} → ℕ → List (Step T) → Type 0
-AllLow top [] = Unit {0}
-AllLow top (m ∷ r) = (m.mark < top) × AllLow top r
+-- absence prints a dash or nothing
+pub no-dash : (dash blank : Bool) → (dash ≡ true → blank ≡ true → ⊥) → blank ≡ true → dash ≡ false
+no-dash true blank one h = absurd (one refl h)
+no-dash false blank one h = refl
 
-abbrev pub AllHigh : {T : Type 0} → ℕ → List (Step T) → Type 0
-AllHigh low [] = Unit {0}
-AllHigh low (m ∷ r) = (low ≤ m.mark) × AllHigh low r
+-- no run is before itself
+pub never-before : {T : Type 0} (r : List (Step T)) → Before r r → ⊥
+never-before [] h = h
+never-before (m ∷ r) h = elim h [ inl k ↦ omega (arith, k) | inr k ↦ never-before r k.1 ]
+
+-- an empty text is less than every other
+pub nil-less : (ds : List ℕ) → (ds ≡ [] → ⊥) → IsTextLess [] ds
+nil-less [] h = h refl
+nil-less (d ∷ ds) h = tt
 
 -- what a slot says is less: by its text, and where these are one, absence is less
 abbrev pub SaidLess : Bool → Said → Said → Type 0
@@ -36,14 +43,8 @@ inside-of d opened = d
 inside-of d closed = d
 inside-of d (left rest) = d
 
-pub same-step : (k l : Step At) → k.mark ≡ l.mark → k.to ≡ l.to → k ≡ l
-same-step k l p q =
-    let f : record { mark = k.mark; to = k.to } ≡ record { mark = l.mark; to = k.to } = ap (λ (n : ℕ). let x : Step At = record { mark = n; to = k.to } in x) p in
-    let g : record { mark = l.mark; to = k.to } ≡ record { mark = l.mark; to = l.to } = ap (λ (t : At). let x : Step At = record { mark = l.mark; to = t } in x) q in
-    f ∙ g
-
 wrap-same : (k l : Step At) → wrap k ≡ wrap l → k ≡ l
-wrap-same k l e = same-step k l (ap (λ (x : Step Within). x.mark) e) (ap (λ (x : Step Within). inside-of k.to x.to) e)
+wrap-same k l e = step-same k l (ap (λ (x : Step Within). x.mark) e) (ap (λ (x : Step Within). inside-of k.to x.to) e)
 
 -- the order of wrapped runs is that of the runs
 pub before-wrapped : (ks ls : List (Step At)) → Before (map wrap ks) (map wrap ls) → Before ks ls
@@ -94,10 +95,6 @@ module _ (sm : SlotMachine) where
   low-closed [] h = (omega arith, tt)
   low-closed (k ∷ ks) h = (h.0, low-closed ks h.1)
 
-  cancel : (xs x y : List ℕ) → xs ++ x ≡ xs ++ y → x ≡ y
-  cancel [] x y e = e
-  cancel (b ∷ xs) x y e = let t : xs ++ x ≡ xs ++ y = cc in cancel xs x y t
-
   quote-not : ◌≡◌ {A = ℕ} 34 45 → ⊥
   quote-not e = omega arith
 
@@ -107,27 +104,6 @@ module _ (sm : SlotMachine) where
   module _
       (prefix_free : (a b : ℕ) (rest : List ℕ) → sm.takes a ≡ true → sm.takes b ≡ true → sm.word b ≡ sm.word a ++ rest → rest ≡ [])
       (one : sm.dash ≡ true → sm.blank ≡ true → ⊥) (blank_apart : sm.blank ≡ true → sm.apart_blank ≡ true) where
-    abbrev Held : Said → Type 0
-    Held = HoldsQuoted sm
-
-    abbrev q_text : Said → List ℕ
-    q_text = quoted_text sm
-
-    abbrev q_run : Said → List (Step Within)
-    q_run = quoted_run sm
-
-    no_dash : sm.blank ≡ true → sm.dash ≡ false
-    no_dash h = elim (cases_Bool sm.dash) [ inl d ↦ absurd (one d h) | inr d ↦ d ]
-
-    never-before : (r : List (Step Within)) → Before r r → ⊥
-    never-before [] h = h
-    never-before (m ∷ r) h = elim h [ inl k ↦ omega (arith, k) | inr k ↦ never-before r k.1 ]
-
-    -- an empty text is less than every other
-    nil-less : (ds : List ℕ) → (ds ≡ [] → ⊥) → IsTextLess [] ds
-    nil-less [] h = h refl
-    nil-less (d ∷ ds) h = tt
-
     closes : (ks : List (Step At)) → AllHigh 2 ks → Before (map wrap ks ++ closing ∷ []) (closing ∷ []) → ⊥
     closes [] a h = never-before (closing ∷ []) h
     closes (k ∷ ks) a h = elim h [ inl m ↦ omega (arith, m, a.0) | inr m ↦ closing-wrap k (sym m.0) ]
@@ -135,18 +111,18 @@ module _ (sm : SlotMachine) where
     closed-first : (ks : List (Step At)) → AllHigh 2 ks → Before (opening ∷ (map wrap ks ++ closing ∷ [])) (opening ∷ closing ∷ []) → ⊥
     closed-first ks a h = elim h [ inl k ↦ omega (arith, k) | inr k ↦ (closes ks a k.1) ]
 
-    pub quoted-order : (v u : Said) (x y : List ℕ) → Held v → Held u → q_text v ++ x ≡ q_text u ++ y → Before (q_run v) (q_run u) → SaidLess sm.dash v u
-    quoted-order nothing nothing x y h g e b = never-before (q_run nothing) b
+    pub quoted-order : (v u : Said) (x y : List ℕ) → HoldsQuoted sm v → HoldsQuoted sm u → quoted_text sm v ++ x ≡ quoted_text sm u ++ y → Before (quoted_run sm v) (quoted_run sm u) → SaidLess sm.dash v u
+    quoted-order nothing nothing x y h g e b = never-before (quoted_run sm nothing) b
     quoted-order nothing (letters ds) x y h g e b =
         elim h [
           | inl d ↦ absurd (quote-dash ((coded sm.word ds ++ 34 ∷ []) ++ y) x (sym (rw d at e)))
-          | inr z ↦ let n = no_dash z in rw n (inl (nil-less ds (g.3 (blank_apart z))))
+          | inr z ↦ let n = no-dash sm.dash sm.blank one z in rw n (inl (nil-less ds (g.3 (blank_apart z))))
         ]
     quoted-order (letters cs) nothing x y h g e b =
         elim g [
           | inl d ↦ absurd (quote-dash ((coded sm.word cs ++ 34 ∷ []) ++ x) y (rw d at e))
           | inr z ↦
-              let n = no_dash z in
+              let n = no-dash sm.dash sm.blank one z in
               let k = rw n at b in
               absurd (closed-first (letters_run sm sm.first cs) (letters-high cs sm.first h.0 h.1) k)
         ]

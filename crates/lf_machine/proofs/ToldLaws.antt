@@ -2,30 +2,31 @@
 use Rattle.std.proofs.Common.{◌≡◌, ◌≢◌, ℕ, ◌+◌, ◌-◌, ◌<◌, ◌⊎◌, inl, inr, List, [], ◌∷◌, length, Option, None, Some, Bool, true, false, cond, map, leb, nat_le, ◌==◌, ◌&&◌, refl, sym, ap, ◌∙◌, arith}
 use Rattle.std.specs.List.{cons_option}
 use Rattle.std.proofs.lemmas.Bool.Decides.{nat_tests}
-use Rattle.std.proofs.lemmas.Bool.{cases_Bool}
+use Rattle.std.proofs.lemmas.Bool.{cases_Bool, and_parts}
 use Rattle.lf_core.specs.Domain.{IsPlainOf, IsPlainOfNone}
 use Rattle.lf_core.specs.declared.marked.Move.{Move}
 use Rattle.lf_core.specs.declared.values.Value.{Value}
 use Rattle.lf_core.specs.declared.values.Value.TheVariants.{Missing}
-use Rattle.lf_format.specs.Codings.{coding_laws}
+use Rattle.lf_escape.specs.Codings.{coding_laws}
 use Rattle.lf_format.specs.Keeps.{KeepsSlot, TakesPlain}
 use Rattle.lf_format.specs.Kinds.{HoldsKind, plain_text, kind_machine, kind_laws}
 use Rattle.lf_format.specs.Slots.{Holds, IsNotAbsence}
 use Rattle.lf_format.specs.declared.kind.Kind.{Kind}
-use Rattle.lf_format.specs.declared.kind.Coding.{Coding}
 use Rattle.lf_format.specs.declared.slot.Slot.{Slot}
 use Rattle.lf_format.specs.declared.slot.Absent.{Absent}
 use Rattle.lf_machine.specs.Decoding.{told_letter, told_letters, tells_dash, IsOfValue}
 use Rattle.lf_machine.specs.Letters.{At, letters_run}
 use Rattle.lf_machine.specs.Paths.{Step}
 use Rattle.lf_machine.proofs.PieceOrder.{plain-low, quote-low}
-use Rattle.lf_machine.specs.Pieces.{slot_machine, is_blank, dash_of, blank_of, said_of, slot_run, PlainSaid, QuoteSaid, plain_run, quote_run}
+use Rattle.lf_machine.specs.Pieces.{machine_of, is_blank, dash_of, blank_of, said_of, slot_run}
 use Rattle.lf_machine.proofs.PieceRuns.{one-absence, blank-apart, missing-said, apart-said, apart-quoted, bare-said, framed-said}
-use Rattle.lf_machine.specs.Quoted.{opening, closing}
+use Rattle.lf_machine.specs.Quoted.{opening, closing, HoldsQuoted, quoted_run}
 use Rattle.lf_machine.proofs.QuotedRuns.{run-quoted}
-use Rattle.lf_machine.proofs.SlotOrder.{AllLow, AllHigh, letters-high}
-use Rattle.lf_machine.specs.Unquoted.{letters, Within, dashed, marks_in}
-use Rattle.lf_machine.proofs.PlainRuns.{spell, start-marks, run-letters, and-left, and-right}
+use Rattle.lf_machine.proofs.SlotOrder.{letters-high}
+use Rattle.lf_machine.specs.Unquoted.{letters, Within, dashed, marks_in, HoldsSaid, said_run}
+use Rattle.lf_machine.proofs.PlainRuns.{spell, start-marks, run-letters, true-false}
+use Rattle.lf_machine.proofs.LetterMoveLaws.{length-none}
+use Rattle.lf_machine.proofs.Joins.{AllLow, AllHigh}
 
 -- whether the first of the marks is that of the dash of absence
 abbrev begins_one : List ℕ → Bool
@@ -39,18 +40,15 @@ record Tells (s : Slot) (v : Value) (marks : List ℕ) : Type 0 where
   -- and else the letters are the value's, or there are none under `Blank`
   letters_are : begins_one marks ≡ false → (said_of s.kind v ≡ letters (spell marks)) ⊎ ((v ≡ Missing) × (spell marks ≡ []) × (is_blank s.absent ≡ true))
 
-true-not_false : (b : Bool) → b ≡ true → b ≡ false → ⊥
-true-not_false b t f = cc
-
 tells-missing : (s : Slot) (marks : List ℕ) → (begins_one marks ≡ true) ⊎ ((spell marks ≡ []) × (is_blank s.absent ≡ true)) → Tells s Missing marks
 tells-missing s marks h = record {
   dash = λ t. refl;
-  letters_are = λ f. elim h [ inl t ↦ absurd (true-not_false (begins_one marks) t f) | inr k ↦ inr (refl, k.0, k.1) ];
+  letters_are = λ f. elim h [ inl t ↦ absurd (true-false t f) | inr k ↦ inr (refl, k.0, k.1) ];
 }
 
 tells-letters : (s : Slot) (v : Value) (marks cs : List ℕ) → begins_one marks ≡ false → spell marks ≡ cs → said_of s.kind v ≡ letters cs → Tells s v marks
 tells-letters s v marks cs b e is = record {
-  dash = λ t. absurd (true-not_false (begins_one marks) t b);
+  dash = λ t. absurd (true-false t b);
   letters_are = λ f. inl (is ∙ ap letters (sym e));
 }
 
@@ -58,73 +56,60 @@ high-begins : (ks : List (Step At)) → AllHigh 2 ks → begins_one (marks_in ks
 high-begins [] h = refl
 high-begins (k ∷ ks) h = grind (arith, nat_tests, h.0)
 
-module _ (name : List ℕ) (kind : Kind) (code : Coding) (absent : Absent) (present : Bool) (takes : TakesPlain kind code) where
+module _ (s : Slot) (takes : TakesPlain s.kind s.code) where
   abbrev slot : Bool → Slot
-  slot quoted = record { name = name; kind = kind; code = code; absent = absent; present = present; quoted = quoted }
+  slot quoted = record s { quoted = quoted }
 
   abbrev marks_of : Bool → Value → List ℕ
   marks_of quoted v = marks_in (slot_run quoted (slot quoted) v)
 
-  -- absence without quotes
-  plain-missing : (d : Bool) → dash_of absent present ≡ d → (dash_of absent present ≡ true) ⊎ (blank_of absent present ≡ true) →
-      (begins_one (marks_in (cond {A = List (Step Within)} d (dashed ∷ []) [])) ≡ true) ⊎ ((spell (marks_in (cond {A = List (Step Within)} d (dashed ∷ []) [])) ≡ []) × (is_blank absent ≡ true))
-  plain-missing true e h = inl refl
-  plain-missing false e h = elim h [
-    | inl t ↦ absurd (true-not_false (dash_of absent present) t e)
-    | inr b ↦ inr (refl, blank-apart absent present b)
+  -- absence, by what stands for it where no dash does
+  missing-told : (d : Bool) (other : List (Step Within)) → spell (marks_in other) ≡ [] → dash_of s.absent s.present ≡ d →
+      (dash_of s.absent s.present ≡ true) ⊎ (blank_of s.absent s.present ≡ true) →
+      (begins_one (marks_in (cond d (dashed ∷ []) other)) ≡ true) ⊎ ((spell (marks_in (cond d (dashed ∷ []) other)) ≡ []) × (is_blank s.absent ≡ true))
+  missing-told true other n e h = inl refl
+  missing-told false other n e h = elim h [
+    | inl t ↦ absurd (true-false t e)
+    | inr b ↦ inr (n, blank-apart s.absent s.present b)
   ]
 
-  quoted-missing : (d : Bool) → dash_of absent present ≡ d → (dash_of absent present ≡ true) ⊎ (blank_of absent present ≡ true) →
-      (begins_one (marks_in (cond {A = List (Step Within)} d (dashed ∷ []) (opening ∷ closing ∷ []))) ≡ true) ⊎ ((spell (marks_in (cond {A = List (Step Within)} d (dashed ∷ []) (opening ∷ closing ∷ []))) ≡ []) × (is_blank absent ≡ true))
-  quoted-missing true e h = inl refl
-  quoted-missing false e h = elim h [
-    | inl t ↦ absurd (true-not_false (dash_of absent present) t e)
-    | inr b ↦ inr (refl, blank-apart absent present b)
-  ]
-
-  plain-letters : (v : Value) (cs : List ℕ) → said_of kind v ≡ letters cs → PlainSaid kind code absent present (letters cs) → Tells (slot false) v (marks_in (plain_run kind code absent present (letters cs)))
+  plain-letters : (v : Value) (cs : List ℕ) → said_of s.kind v ≡ letters cs → HoldsSaid (machine_of s) (letters cs) → Tells (slot false) v (marks_in (said_run (machine_of s) (letters cs)))
   plain-letters v cs is h =
-      let ks = letters_run (slot_machine kind code absent present) (kind_machine kind).first cs in
-      let high = letters-high (slot_machine kind code absent present) cs (kind_machine kind).first h.0 h.1 in
-      let same = start-marks (slot_machine kind code absent present) (coding_laws code).dash (one-absence absent present) (blank-apart absent present) ks in
-      tells-letters (slot false) v (marks_in (plain_run kind code absent present (letters cs))) cs
+      let ks = letters_run (machine_of s) (kind_machine s.kind).first cs in
+      let high = letters-high (machine_of s) cs (kind_machine s.kind).first h.0 h.1 in
+      let same = start-marks (machine_of s) (coding_laws s.code).dash (one-absence s.absent s.present) (blank-apart s.absent s.present) ks in
+      tells-letters (slot false) v (marks_in (said_run (machine_of s) (letters cs))) cs
       (ap begins_one same ∙ high-begins ks high)
-      (run-letters (slot_machine kind code absent present) (coding_laws code).dash (one-absence absent present) (blank-apart absent present) cs h)
+      (run-letters (machine_of s) (coding_laws s.code).dash (one-absence s.absent s.present) (blank-apart s.absent s.present) cs h)
       is
 
-  quoted-letters : (v : Value) (cs : List ℕ) → said_of kind v ≡ letters cs → QuoteSaid kind code absent present (letters cs) → Tells (slot true) v (marks_in (quote_run kind code absent present (letters cs)))
+  quoted-letters : (v : Value) (cs : List ℕ) → said_of s.kind v ≡ letters cs → HoldsQuoted (machine_of s) (letters cs) → Tells (slot true) v (marks_in (quoted_run (machine_of s) (letters cs)))
   quoted-letters v cs is h =
-      tells-letters (slot true) v (marks_in (quote_run kind code absent present (letters cs))) cs refl
-      (run-quoted (slot_machine kind code absent present) (one-absence absent present) (blank-apart absent present) cs h)
+      tells-letters (slot true) v (marks_in (quoted_run (machine_of s) (letters cs))) cs refl
+      (run-quoted (machine_of s) (one-absence s.absent s.present) (blank-apart s.absent s.present) cs h)
       is
-
-  plain-tells : (v : Value) → Holds (slot false) v → Tells (slot false) v (marks_of false v)
-  plain-tells Missing h = tells-missing (slot false) (marks_of false Missing) (plain-missing (dash_of absent present) refl (missing-said absent present h))
-  plain-tells v h = plain-letters v (plain_text kind v) refl (bare-said kind code absent present name takes v h)
-
-  quoted-tells : (v : Value) → Holds (slot true) v → Tells (slot true) v (marks_of true v)
-  quoted-tells Missing h = tells-missing (slot true) (marks_of true Missing) (quoted-missing (dash_of absent present) refl (missing-said absent present h))
-  quoted-tells v h = quoted-letters v (plain_text kind v) refl (framed-said kind code absent present name takes v h)
 
   slot-tells : (quoted : Bool) (v : Value) → Holds (slot quoted) v → Tells (slot quoted) v (marks_of quoted v)
-  slot-tells false v h = plain-tells v h
-  slot-tells true v h = quoted-tells v h
+  slot-tells false Missing h = tells-missing (slot false) (marks_of false Missing) (missing-told (dash_of s.absent s.present) [] refl refl (missing-said s.absent s.present h))
+  slot-tells false v h = plain-letters v (plain_text s.kind v) refl (bare-said s takes v h)
+  slot-tells true Missing h = tells-missing (slot true) (marks_of true Missing) (missing-told (dash_of s.absent s.present) (opening ∷ closing ∷ []) refl refl (missing-said s.absent s.present h))
+  slot-tells true v h = quoted-letters v (plain_text s.kind v) refl (framed-said s takes v h)
 
   slot-low : (quoted : Bool) (v : Value) → Holds (slot quoted) v → AllLow 259 (slot_run quoted (slot quoted) v)
-  slot-low false v h = plain-low kind code absent present (said_of kind v) (bare-said kind code absent present name takes v h)
-  slot-low true v h = quote-low kind code absent present (said_of kind v) (framed-said kind code absent present name takes v h)
+  slot-low false v h = plain-low s (said_of s.kind v) (bare-said s takes v h)
+  slot-low true v h = quote-low s (said_of s.kind v) (framed-said s takes v h)
 
 marks-tell : (s : Slot) (v : Value) → KeepsSlot s → Holds s v → Tells s v (marks_in (slot_run s.quoted s v))
-marks-tell s v k h = slot-tells s.name s.kind s.code s.absent s.present k.takes s.quoted v h
+marks-tell s v k h = slot-tells s k.takes s.quoted v h
 
 marks-low : (s : Slot) (v : Value) → KeepsSlot s → Holds s v → AllLow 259 (slot_run s.quoted s v)
-marks-low s v k h = slot-low s.name s.kind s.code s.absent s.present k.takes s.quoted v h
+marks-low s v k h = slot-low s k.takes s.quoted v h
 
 -- Marks that are raised, and those of the moves.
-abbrev raised : ℕ → List ℕ → List ℕ
+abbrev pub raised : ℕ → List ℕ → List ℕ
 raised above ks = map (λ k. above + k) ks
 
-abbrev move_marks : List Move → List ℕ
+abbrev pub move_marks : List Move → List ℕ
 move_marks moves = map (λ m. m.mark) moves
 
 dash-same : (above : ℕ) (moves : List Move) (ks : List ℕ) → move_marks moves ≡ raised above ks → tells_dash above moves ≡ begins_one ks
@@ -217,18 +202,14 @@ read-some s above moves v text is f some e none =
     let h = letters-held s above moves v is f some in
     none v h.0 (h.1 ∙ sym e)
 
-nil-or_not : (xs : List ℕ) → (length xs == 0) ≡ true → xs ≡ []
-nil-or_not [] h = refl
-nil-or_not (x ∷ xs) h = absurd (grind (arith, nat_tests, h))
-
 -- what the test for no letters under `Blank` says
 pub bare-test : (e b k : Bool) (xs cs : List ℕ) → e ≡ (length xs == 0) → xs ≡ cs → b ≡ k → e && b ≡ true → (cs ≡ []) × (k ≡ true)
 bare-test e b k xs cs is same blank t =
-    (sym same ∙ nil-or_not xs (sym is ∙ and-left e b t), sym blank ∙ and-right e b t)
+    (sym same ∙ length-none xs (sym is ∙ (and_parts e b t).0), sym blank ∙ (and_parts e b t).1)
 
 pub some-test : (e b k : Bool) (xs cs : List ℕ) → e ≡ (length xs == 0) → xs ≡ cs → b ≡ k → e && b ≡ false → cs ≡ [] → k ≡ true → ⊥
 some-test e b k xs cs is same blank f none yes_blank =
     let z : e ≡ true = is ∙ ap (λ (ys : List ℕ). length ys == 0) (same ∙ none) in
     let g : b ≡ true = blank ∙ yes_blank in
     let t : e && b ≡ true = rw (z, g) refl in
-    true-not_false (e && b) t f
+    true-false t f

@@ -1,17 +1,17 @@
 -- A slot with quotes by numbers: its points, and the moves from each.
 use Rattle.std.proofs.Common.{◌≡◌, ℕ, ◌+◌, ◌*◌, ◌/◌, ◌%◌, ◌<◌, ◌≤◌, ◌⊎◌, inl, inr, List, [], ◌∷◌, ◌++◌, length, get_or, Bool, true, false, cond, not, ltb, leb, ◌==◌, ◌&&◌, refl, sym, ap, subst, ◌∙◌, arith, Contains}
-use Rattle.std.proofs.lemmas.Bool.Decides.{nat_tests, leb_tells}
+use Rattle.std.proofs.lemmas.Bool.Decides.{leb_tells}
 use Rattle.std.proofs.lemmas.List.Elements.{Contains-append_cases, Contains-append_left, Contains-append_right}
+use Rattle.std.proofs.lemmas.Bool.{eqb-true, eq-eqb, ne_eqb, lt-ltb, le-ltb, le-leb, lt-leb, and_parts, and_from}
 use Rattle.lf_core.specs.declared.marked.Move.{Move}
 use Rattle.lf_machine.specs.Paths.{Step}
 use Rattle.lf_machine.specs.Letters.{At, CanStep, IsDone}
-use Rattle.lf_machine.specs.Lists.{none-there, one-there, there-one, Rises, rises-append}
+use Rattle.lf_machine.specs.Lists.{none-there, one-there, there-one, Rises, rises-append, cond-there, there-cond, rises-guard, rises-either}
 use Rattle.lf_machine.specs.Numbered.{numbered}
-use Rattle.lf_machine.specs.RowNumbers.{cond-there, there-cond, and-both, both-and}
 use Rattle.lf_machine.specs.Unquoted.{Within, inside, missing, lone, opened, closed, left, wrap, dashed}
 use Rattle.lf_machine.specs.Quoted.{opening, closing, QuotedEnter, QuotedCan, QuotedDone, BareQuotes}
 use Rattle.lf_machine.specs.SlotMoves.{IsLaid, at_moves, at_number, ValidAt, at_state, at-rises, at-range, at-back, at-first, at-goes, at-gone, at_root, root-done, done-root}
-use Rattle.lf_machine.specs.PlainNumbers.{same-from, from-same, not-same, less-true, less-false, rises-guard, either-rises, plain_empty, plain-bare, plain-bared}
+use Rattle.lf_machine.specs.PlainNumbers.{plain_empty, plain-bare, plain-bared}
 use Rattle.lf_machine.specs.SlotMachine.{SlotMachine}
 
 module _ (sm : SlotMachine) where
@@ -80,7 +80,7 @@ module _ (sm : SlotMachine) where
   pub framed-moves_rise : (n byte : ℕ) → Rises 0 259 (framed_moves n byte)
   framed-moves_rise n byte =
       let may = at_root sm (at_state sm n) in
-      either-rises sm (ltb n top) (closing_moves may (n / length sm.table) (get_or sm.table (n % length sm.table) []) byte) (cond (n == top + 1) (closing_moves nothing_between sm.first [] byte) [])
+      rises-either (ltb n top) 0 259 (closing_moves may (n / length sm.table) (get_or sm.table (n % length sm.table) []) byte) (cond (n == top + 1) (closing_moves nothing_between sm.first [] byte) [])
       (closing-rises may (n / length sm.table) (get_or sm.table (n % length sm.table) []) byte)
       (rises-guard (n == top + 1) 0 259 (closing_moves nothing_between sm.first [] byte) (omega arith) (closing-rises nothing_between sm.first [] byte))
 
@@ -95,60 +95,51 @@ module _ (sm : SlotMachine) where
 
     pub framed-back : (s : Within) → FramedValid s → framed_state (framed_number s) ≡ s
     framed-back (inside s) v =
-        let t = less-true (at_number sm s) top (at-range sm is s v) in
+        let t = lt-ltb (at_number sm s) top (at-range sm is s v) in
         rw t (ap inside (at-back sm is s v))
     framed-back missing v =
-        let t = less-false top top (omega arith) in
-        let u = from-same top top refl in
+        let t = le-ltb top top (omega arith) in
+        let u = eq-eqb top top refl in
         rw (t, u) refl
     framed-back opened v =
-        let t = less-false (top + 1) top (omega arith) in
-        let u = not-same (top + 1) top (λ e. omega arith) in
-        let w = from-same (top + 1) (top + 1) refl in
+        let t = le-ltb (top + 1) top (omega arith) in
+        let u = ne_eqb (top + 1) top (λ e. omega arith) in
+        let w = eq-eqb (top + 1) (top + 1) refl in
         rw (t, u, w) refl
     framed-back closed v =
-        let t = less-false (top + 2) top (omega arith) in
-        let u = not-same (top + 2) top (λ e. omega arith) in
-        let w = not-same (top + 2) (top + 1) (λ e. omega arith) in
+        let t = le-ltb (top + 2) top (omega arith) in
+        let u = ne_eqb (top + 2) top (λ e. omega arith) in
+        let w = ne_eqb (top + 2) (top + 1) (λ e. omega arith) in
         rw (t, u, w) refl
     framed-back lone v = absurd v
     framed-back (left rest) v = absurd v
 
-    abbrev Enters : ℕ → Step Within → Type 0
-    Enters = QuotedEnter sm
-
-    abbrev Goes : Within → ℕ → Step Within → Type 0
-    Goes = QuotedCan sm
-
-    abbrev Stops : Within → Type 0
-    Stops = QuotedDone sm
-
-    pub framed-enters : (byte : ℕ) (m : Move) → Contains (framed_enter byte) m → (a : Step Within) × Enters byte a × FramedValid a.to × (m ≡ numbered framed_number a)
+    pub framed-enters : (byte : ℕ) (m : Move) → Contains (framed_enter byte) m → (a : Step Within) × QuotedEnter sm byte a × FramedValid a.to × (m ≡ numbered framed_number a)
     framed-enters byte m h =
         elim (Contains-append_cases (cond (byte == 34) (record { mark = 0; to = top + 1 } ∷ []) []) (cond (sm.dash && byte == 45) (record { mark = 1; to = top } ∷ []) []) m h) [
           | inl i ↦
               let c = cond-there (byte == 34) (record { mark = 0; to = top + 1 } ∷ []) m i in
-              (opening, inl (same-from byte 34 c.0, refl), tt, one-there (record { mark = 0; to = top + 1 }) m c.1)
+              (opening, inl (eqb-true byte 34 c.0, refl), tt, one-there (record { mark = 0; to = top + 1 }) m c.1)
           | inr i ↦
               let c = cond-there (sm.dash && byte == 45) (record { mark = 1; to = top } ∷ []) m i in
-              let d = and-both sm.dash (byte == 45) c.0 in
-              (dashed, inr (d.0, same-from byte 45 d.1, refl), tt, one-there (record { mark = 1; to = top }) m c.1)
+              let d = and_parts sm.dash (byte == 45) c.0 in
+              (dashed, inr (d.0, eqb-true byte 45 d.1, refl), tt, one-there (record { mark = 1; to = top }) m c.1)
         ]
 
-    pub framed-entered : (byte : ℕ) (a : Step Within) → Enters byte a → FramedValid a.to × Contains (framed_enter byte) (numbered framed_number a)
+    pub framed-entered : (byte : ℕ) (a : Step Within) → QuotedEnter sm byte a → FramedValid a.to × Contains (framed_enter byte) (numbered framed_number a)
     framed-entered byte a h =
         elim h [
           | inl i ↦
               let mv : Move = record { mark = 0; to = top + 1 } in
               let e : numbered framed_number a ≡ mv = ap (numbered framed_number) i.1 in
               let v : FramedValid a.to = rw (i.1) tt in
-              let c = there-cond (byte == 34) (mv ∷ []) mv (from-same byte 34 i.0) (there-one mv) in
+              let c = there-cond (byte == 34) (mv ∷ []) mv (eq-eqb byte 34 i.0) (there-one mv) in
               (v, rw e (Contains-append_left (cond (byte == 34) (mv ∷ []) []) (cond (sm.dash && byte == 45) (record { mark = 1; to = top } ∷ []) []) mv c))
           | inr i ↦
               let mv : Move = record { mark = 1; to = top } in
               let e : numbered framed_number a ≡ mv = ap (numbered framed_number) i.2 in
               let v : FramedValid a.to = rw (i.2) tt in
-              let c = there-cond (sm.dash && byte == 45) (mv ∷ []) mv (both-and sm.dash (byte == 45) i.0 (from-same byte 45 i.1)) (there-one mv) in
+              let c = there-cond (sm.dash && byte == 45) (mv ∷ []) mv (and_from sm.dash (byte == 45) i.0 (eq-eqb byte 45 i.1)) (there-one mv) in
               (v, rw e (Contains-append_right (cond (byte == 34) (record { mark = 0; to = top + 1 } ∷ []) []) (cond (sm.dash && byte == 45) (mv ∷ []) []) mv c))
         ]
 
@@ -162,8 +153,8 @@ module _ (sm : SlotMachine) where
         elim (Contains-append_cases (cond (byte == 34 && b) (record { mark = 1; to = top + 2 } ∷ []) []) (at_moves sm q read byte) m h) [
           | inl i ↦
               let c = cond-there (byte == 34 && b) (record { mark = 1; to = top + 2 } ∷ []) m i in
-              let d = and-both (byte == 34) b c.0 in
-              (closing, inr (f d.1, same-from byte 34 d.0, refl), tt, one-there (record { mark = 1; to = top + 2 }) m c.1)
+              let d = and_parts (byte == 34) b c.0 in
+              (closing, inr (f d.1, eqb-true byte 34 d.0, refl), tt, one-there (record { mark = 1; to = top + 2 }) m c.1)
           | inr i ↦
               let g = at-goes sm is q read byte m l i in
               (wrap g.0, inl (g.0, g.1, refl), g.2, g.3)
@@ -182,7 +173,7 @@ module _ (sm : SlotMachine) where
               let mv : Move = record { mark = 1; to = top + 2 } in
               let e : numbered framed_number a ≡ mv = ap (numbered framed_number) i.2 in
               let v : FramedValid a.to = rw (i.2) tt in
-              let c = there-cond (byte == 34 && b) (mv ∷ []) mv (both-and (byte == 34) b (from-same byte 34 i.1) (f i.0)) (there-one mv) in
+              let c = there-cond (byte == 34 && b) (mv ∷ []) mv (and_from (byte == 34) b (eq-eqb byte 34 i.1) (f i.0)) (there-one mv) in
               (v, rw e (Contains-append_left (cond (byte == 34 && b) (mv ∷ []) []) (at_moves sm q read byte) mv c))
         ]
 
@@ -209,18 +200,18 @@ module _ (sm : SlotMachine) where
 
     no-moves : (n byte : ℕ) → top ≤ n → (n ≡ top + 1 → ⊥) → framed_moves n byte ≡ []
     no-moves n byte l h =
-        let t = less-false n top l in
-        let u = not-same n (top + 1) h in
+        let t = le-ltb n top l in
+        let u = ne_eqb n (top + 1) h in
         rw (t, u) refl
 
     opened-moves : (n byte : ℕ) → n ≡ top + 1 → framed_moves n byte ≡ closing_moves nothing_between sm.first [] byte
     opened-moves n byte e =
-        let t = less-false n top (omega arith) in
-        let u = from-same n (top + 1) e in
+        let t = le-ltb n top (omega arith) in
+        let u = eq-eqb n (top + 1) e in
         rw (t, u) refl
 
     abbrev Found : ℕ → ℕ → Move → Type 0
-    Found n byte m = (a : Step Within) × Goes (framed_state n) byte a × FramedValid a.to × (m ≡ numbered framed_number a)
+    Found n byte m = (a : Step Within) × QuotedCan sm (framed_state n) byte a × FramedValid a.to × (m ≡ numbered framed_number a)
 
     pub framed-goes : (n byte : ℕ) (m : Move) → n < top + 3 → Contains (framed_moves n byte) m → Found n byte m
     framed-goes n byte m l h =
@@ -233,75 +224,69 @@ module _ (sm : SlotMachine) where
                       | inl e ↦
                           let c : Contains (closing_moves nothing_between sm.first [] byte) m = rw (opened-moves n byte e) at h in
                           let g = closing-goes (BareQuotes sm) nothing_between (plain-bare sm) sm.first [] byte m is.begins c in
-                          subst (λ (s : Within). (a : Step Within) × Goes s byte a × FramedValid a.to × (m ≡ numbered framed_number a)) (sym (at-opened n e)) g
+                          subst (λ (s : Within). (a : Step Within) × QuotedCan sm s byte a × FramedValid a.to × (m ≡ numbered framed_number a)) (sym (at-opened n e)) g
                       | inr e ↦ let c : Contains [] m = rw (no-moves n byte k.1 (λ z. omega (arith, e))) at h in absurd (none-there m c)
                     ]
               ]
           | inr k ↦
-              let t = less-true n top k.1 in
+              let t = lt-ltb n top k.1 in
               let s = at_state sm n in
               let c : Contains (closing_moves (at_root sm (at_state sm n)) (n / length sm.table) (get_or sm.table (n % length sm.table) []) byte) m = rw t at h in
               let g = closing-goes (IsDone sm (at_state sm n)) (at_root sm (at_state sm n)) (root-done sm is (at_state sm n)) (n / length sm.table) (get_or sm.table (n % length sm.table) []) byte m (at-first sm is n k.1) c in
               rw t g
         ]
 
-    pub framed-gone : (n byte : ℕ) (a : Step Within) → n < top + 3 → Goes (framed_state n) byte a → FramedValid a.to × Contains (framed_moves n byte) (numbered framed_number a)
+    pub framed-gone : (n byte : ℕ) (a : Step Within) → n < top + 3 → QuotedCan sm (framed_state n) byte a → FramedValid a.to × Contains (framed_moves n byte) (numbered framed_number a)
     framed-gone n byte a l h =
         elim (leb_tells top n) [
           | inl k ↦
               elim (outer n l k.1) [
-                | inl e ↦ let c : Goes missing byte a = subst (λ (s : Within). Goes s byte a) (at-missing n e) h in absurd c
+                | inl e ↦ let c : QuotedCan sm missing byte a = subst (λ (s : Within). QuotedCan sm s byte a) (at-missing n e) h in absurd c
                 | inr o ↦
                     elim o [
                       | inl e ↦
-                          let c : Goes opened byte a = subst (λ (s : Within). Goes s byte a) (at-opened n e) h in
+                          let c : QuotedCan sm opened byte a = subst (λ (s : Within). QuotedCan sm s byte a) (at-opened n e) h in
                           let g = closing-gone (BareQuotes sm) nothing_between (plain-bared sm) sm.first [] byte a is.begins c in
                           (g.0, rw (opened-moves n byte e) g.1)
-                      | inr e ↦ let c : Goes closed byte a = subst (λ (s : Within). Goes s byte a) (at-closed n e) h in absurd c
+                      | inr e ↦ let c : QuotedCan sm closed byte a = subst (λ (s : Within). QuotedCan sm s byte a) (at-closed n e) h in absurd c
                     ]
               ]
           | inr k ↦
-              let t = less-true n top k.1 in
-              let c : Goes (inside (at_state sm n)) byte a = rw t at h in
+              let t = lt-ltb n top k.1 in
+              let c : QuotedCan sm (inside (at_state sm n)) byte a = rw t at h in
               let g = closing-gone (IsDone sm (at_state sm n)) (at_root sm (at_state sm n)) (done-root sm is (at_state sm n)) (n / length sm.table) (get_or sm.table (n % length sm.table) []) byte a (at-first sm is n k.1) c in
               (g.0, rw t g.1)
         ]
 
-    at-least : (a b : ℕ) → a ≤ b → leb a b ≡ true
-    at-least a b h = grind (arith, nat_tests)
-
-    not-least : (a b : ℕ) → b < a → leb a b ≡ false
-    not-least a b h = grind (arith, nat_tests)
-
-    pub framed-ends : (n : ℕ) → n < top + 3 → framed_done n ≡ true → Stops (framed_state n)
+    pub framed-ends : (n : ℕ) → n < top + 3 → framed_done n ≡ true → QuotedDone sm (framed_state n)
     framed-ends n l h =
         elim (leb_tells top n) [
           | inl k ↦
               elim (outer n l k.1) [
-                | inl e ↦ subst (λ (s : Within). Stops s) (sym (at-missing n e)) tt
+                | inl e ↦ subst (QuotedDone sm) (sym (at-missing n e)) tt
                 | inr o ↦
                     elim o [
-                      | inl e ↦ let f : false ≡ true = rw (at-least top n k.1, from-same n (top + 1) e) at h in absurd cc
-                      | inr e ↦ subst (λ (s : Within). Stops s) (sym (at-closed n e)) tt
+                      | inl e ↦ let f : false ≡ true = rw (le-leb top n k.1, eq-eqb n (top + 1) e) at h in absurd cc
+                      | inr e ↦ subst (QuotedDone sm) (sym (at-closed n e)) tt
                     ]
               ]
-          | inr k ↦ let f : false ≡ true = rw (not-least top n k.1) at h in absurd cc
+          | inr k ↦ let f : false ≡ true = rw (lt-leb top n k.1) at h in absurd cc
         ]
 
-    pub framed-ended : (n : ℕ) → n < top + 3 → Stops (framed_state n) → framed_done n ≡ true
+    pub framed-ended : (n : ℕ) → n < top + 3 → QuotedDone sm (framed_state n) → framed_done n ≡ true
     framed-ended n l h =
         elim (leb_tells top n) [
           | inl k ↦
               elim (outer n l k.1) [
-                | inl e ↦ rw (at-least top n k.1, not-same n (top + 1) (λ z. omega (arith, e))) refl
+                | inl e ↦ rw (le-leb top n k.1, ne_eqb n (top + 1) (λ z. omega (arith, e))) refl
                 | inr o ↦
                     elim o [
-                      | inl e ↦ let c : Stops opened = subst (λ (s : Within). Stops s) (at-opened n e) h in absurd c
-                      | inr e ↦ rw (at-least top n k.1, not-same n (top + 1) (λ z. omega (arith, e))) refl
+                      | inl e ↦ let c : QuotedDone sm opened = subst (QuotedDone sm) (at-opened n e) h in absurd c
+                      | inr e ↦ rw (le-leb top n k.1, ne_eqb n (top + 1) (λ z. omega (arith, e))) refl
                     ]
               ]
           | inr k ↦
-              let t = less-true n top k.1 in
-              let c : Stops (inside (at_state sm n)) = rw t at h in
+              let t = lt-ltb n top k.1 in
+              let c : QuotedDone sm (inside (at_state sm n)) = rw t at h in
               absurd c
         ]

@@ -2,9 +2,10 @@
 use Rattle.std.specs.Prelude.{◌≡◌, ℕ, zero, suc, ◌+◌, ◌*◌, ◌<◌, List, [], ◌∷◌, ◌++◌, Option, None, Some, Bool, true, false, cond}
 use Rattle.std.proofs.Common.{refl, subst, arith, inl, inr, Contains}
 use Rattle.std.proofs.lemmas.Bool.Decides.{leb_tells}
-use Rattle.std.proofs.lemmas.List.Elements.{All-nil, All-cons, All-contains, Contains-push, Contains-append_cases, Contains-append_left, Contains-append_right}
+use Rattle.std.proofs.lemmas.List.Elements.{Contains-append_cases, Contains-append_left, Contains-append_right}
 use Rattle.lf_core.specs.declared.marked.Move.{Move}
 use Rattle.lf_code_table.specs.Table.{same_list, same_list-true, true-same_list}
+use Rattle.lf_machine.specs.Lists.{none-there, one-there, there-one}
 
 -- the moves by which a word's last byte ends a letter below n: the mark tells the letter
 abbrev pub letter_move : ℕ → ℕ → ℕ → Option ℕ → List Move
@@ -27,9 +28,6 @@ letter_moves takes word next base width text (suc n) =
     letter_moves takes word next base width text n ++ one_letter takes word next base width text n
 
 module _ (takes : ℕ → Bool) (word : ℕ → List ℕ) (next : ℕ → Option ℕ) (base width : ℕ) (text : List ℕ) where
-  none-there : {A : Type 0} (m : A) → Contains [] m → ⊥
-  none-there m h = let k = h.1 in omega arith
-
   -- the move ends a letter whose word the text is
   abbrev pub IsLetterMove : Move → Type 0
   IsLetterMove m = (c : ℕ) × (q : ℕ) × (takes c ≡ true) × (word c ≡ text) × (next c ≡ Some q) × (m ≡ record { mark = base + c; to = q * width })
@@ -37,8 +35,7 @@ module _ (takes : ℕ → Bool) (word : ℕ → List ℕ) (next : ℕ → Option
   from-one : (n : ℕ) (m : Move) (t s : Bool) (o : Option ℕ) → takes n ≡ t → same_list (word n) text ≡ s → next n ≡ o → Contains (cond t (cond s (letter_move base width n o) []) []) m → IsLetterMove m
   from-one n m true true (Some q) x y z h =
       let mv : Move = record { mark = base + n; to = q * width } in
-      let e : m ≡ mv = All-contains (λ (k : Move). k ≡ mv) (mv ∷ []) m (All-cons (λ (k : Move). k ≡ mv) mv [] refl (All-nil (λ (k : Move). k ≡ mv))) h in
-      (n, q, x, same_list-true (word n) text y, z, e)
+      (n, q, x, same_list-true (word n) text y, z, one-there mv m h)
   from-one n m true true None x y z h = absurd (none-there m h)
   from-one n m true false o x y z h = absurd (none-there m h)
   from-one n m false s o x y z h = absurd (none-there m h)
@@ -56,7 +53,7 @@ module _ (takes : ℕ → Bool) (word : ℕ → List ℕ) (next : ℕ → Option
   into-one : (n q : ℕ) (t s : Bool) (o : Option ℕ) → t ≡ true → s ≡ true → o ≡ Some q → Contains (cond t (cond s (letter_move base width n o) []) []) (record { mark = base + n; to = q * width })
   into-one n q t s o x y z =
       let mv : Move = record { mark = base + n; to = q * width } in
-      rw (x, y, z) (Contains-push [] mv)
+      rw (x, y, z) (there-one mv)
 
   pub letter-moved : (n c q : ℕ) → c < n → takes c ≡ true → word c ≡ text → next c ≡ Some q → Contains (letter_moves takes word next base width text n) (record { mark = base + c; to = q * width })
   unfolding letter_moves

@@ -1,3 +1,4 @@
+pub mod Sums
 pub mod Runs
 pub mod Decoding
 pub mod RecordOrder

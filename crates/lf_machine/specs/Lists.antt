@@ -1,5 +1,5 @@
 -- Lists of moves: what stands in them, and marks that rise.
-use Rattle.std.proofs.Common.{◌≡◌, ℕ, ◌+◌, ◌<◌, ◌≤◌, ◌⊎◌, inl, inr, List, [], ◌∷◌, ◌++◌, map, refl, sym, ap, ◌∙◌, arith, Contains}
+use Rattle.std.proofs.Common.{◌≡◌, ℕ, ◌+◌, ◌<◌, ◌≤◌, ◌⊎◌, inl, inr, List, [], ◌∷◌, ◌++◌, map, refl, sym, ap, ◌∙◌, arith, Contains, Bool, true, false, cond}
 use Rattle.std.proofs.lemmas.List.Elements.{All-nil, All-cons, All-contains, Contains-push, Contains-append_cases, Contains-append_left, Contains-append_right}
 use Rattle.lf_core.specs.Marked.{NoneTwice}
 use Rattle.lf_core.specs.declared.marked.Move.{Move}
@@ -12,6 +12,10 @@ one-there {A} x m h = All-contains (λ (k : A). k ≡ x) (x ∷ []) m (All-cons 
 
 pub there-one : {A : Type 0} (x : A) → Contains (x ∷ []) x
 there-one x = Contains-push [] x
+
+pub never-nil : (xs : List ℕ) (x : ℕ) → xs ++ x ∷ [] ≡ [] → ⊥
+never-nil [] x e = cc
+never-nil (y ∷ xs) x e = cc
 
 pub first-there : {A : Type 0} (x m : A) (xs : List A) → Contains (x ∷ xs) m → (m ≡ x) ⊎ Contains xs m
 first-there x m xs h = elim (Contains-append_cases (x ∷ []) xs m h) [ inl k ↦ inl (one-there x m k) | inr k ↦ inr k ]
@@ -90,3 +94,18 @@ rises-told a b (x ∷ ms) m k h c d e =
             | inr q ↦ rises-told (x.mark + 1) b ms m k h.1 p q e
           ]
     ]
+
+pub cond-there : {A : Type 0} (b : Bool) (xs : List A) (m : A) → Contains (cond b xs []) m → (b ≡ true) × Contains xs m
+cond-there true xs m h = (refl, h)
+cond-there false xs m h = absurd (none-there m h)
+
+pub there-cond : {A : Type 0} (b : Bool) (xs : List A) (m : A) → b ≡ true → Contains xs m → Contains (cond b xs []) m
+there-cond b xs m e h = rw e h
+
+pub rises-guard : (b : Bool) (low high : ℕ) (ms : List Move) → low ≤ high → Rises low high ms → Rises low high (cond b ms [])
+rises-guard true low high ms l h = h
+rises-guard false low high ms l h = l
+
+pub rises-either : (b : Bool) (low high : ℕ) (xs ys : List Move) → Rises low high xs → Rises low high ys → Rises low high (cond b xs ys)
+rises-either true low high xs ys h g = h
+rises-either false low high xs ys h g = g

@@ -2,6 +2,7 @@
 use Rattle.std.proofs.Common.{◌≡◌, ℕ, List, [], ◌∷◌}
 use Rattle.lf_machine.specs.Paths.{Step}
 use Rattle.lf_machine.specs.Unquoted.{Within, inside, missing, lone, opened, closed, left}
+use Rattle.lf_machine.specs.Parts.{Part}
 
 -- the step over a literal's byte, before the bytes that are left
 abbrev pub passing : List ℕ → Step Within
@@ -39,3 +40,7 @@ LiteralDone closed = ⊥
 abbrev pub literal_run : List ℕ → List (Step Within)
 literal_run [] = []
 literal_run (x ∷ rest) = passing rest ∷ literal_run rest
+
+-- the literal as a part
+abbrev pub literal_part : List ℕ → Part Within
+literal_part bytes = record { enter = LiteralNext bytes; can = LiteralCan; done = LiteralDone; empty = IsOver bytes }

@@ -1,15 +1,15 @@
 -- A literal by numbers: a point after each byte.
-use Rattle.std.proofs.Common.{◌≡◌, ℕ, zero, suc, ◌+◌, ◌-◌, ◌<◌, ◌≤◌, inl, inr, List, [], ◌∷◌, length, get_or, drop, true, cond, ltb, ◌==◌, ◌&&◌, refl, sym, ap, ◌∙◌, arith, Contains, add-one, length-drop}
+use Rattle.std.proofs.Common.{◌≡◌, ℕ, ◌+◌, ◌-◌, ◌<◌, inl, inr, List, [], ◌∷◌, length, get_or, drop, true, cond, ltb, ◌==◌, ◌&&◌, refl, sym, ap, ◌∙◌, arith, Contains, add-one, length-drop}
 use Rattle.std.proofs.lemmas.Bool.Decides.{leb_tells}
 use Rattle.std.proofs.Math.Seq.{drop-cons}
+use Rattle.std.proofs.lemmas.Bool.{eqb-true, eq-eqb, lt-ltb, ltb-true, and_parts, and_from}
+use Rattle.std.proofs.Math.ListN.{drop_of_length-le}
 use Rattle.lf_core.specs.declared.marked.Move.{Move}
 use Rattle.lf_machine.specs.Paths.{Step}
-use Rattle.lf_machine.specs.Lists.{one-there, there-one, Rises}
+use Rattle.lf_machine.specs.Lists.{one-there, there-one, Rises, cond-there, there-cond, rises-guard}
 use Rattle.lf_machine.specs.Numbered.{numbered}
-use Rattle.lf_machine.specs.RowNumbers.{cond-there, there-cond, and-both, both-and}
 use Rattle.lf_machine.specs.Unquoted.{Within, inside, missing, lone, opened, closed, left}
 use Rattle.lf_machine.specs.Literal.{passing, LiteralNext, LiteralDone, IsOver}
-use Rattle.lf_machine.specs.PlainNumbers.{same-from, from-same, less-true, true-less, rises-guard}
 use Rattle.lf_machine.specs.SlotMoves.{is_nil}
 
 -- the move over the literal's byte at a place: to the place itself
@@ -46,12 +46,6 @@ number-of bytes rest n l e =
 drop-here : (bytes : List ℕ) (i : ℕ) → i < length bytes → drop i bytes ≡ get_or bytes i 0 ∷ drop (i + 1) bytes
 drop-here bytes i h = rw add-one (drop-cons bytes i 0 h)
 
-drop-all : (bytes : List ℕ) (i : ℕ) → length bytes ≤ i → drop i bytes ≡ []
-drop-all [] zero h = refl
-drop-all [] (suc i) h = refl
-drop-all (b ∷ bytes) zero h = absurd (omega arith)
-drop-all (b ∷ bytes) (suc i) h = drop-all bytes i (omega arith)
-
 pub literal-range : (bytes : List ℕ) (s : Within) → LiteralValid bytes s → literal_number bytes s < length bytes
 literal-range bytes (left rest) v = let e = number-of bytes rest v.0 v.1 v.2 in let l = v.1 in rw e l
 literal-range bytes (inside s) v = absurd v
@@ -71,12 +65,12 @@ literal-back bytes closed v = absurd v
 pub literal-goes : (bytes : List ℕ) (i byte : ℕ) (m : Move) → Contains (literal_at bytes i byte) m → (a : Step Within) × LiteralNext (drop i bytes) byte a × LiteralValid bytes a.to × (m ≡ numbered (literal_number bytes) a)
 literal-goes bytes i byte m h =
     let c = cond-there (ltb i (length bytes) && get_or bytes i 0 == byte) (record { mark = 0; to = i } ∷ []) m h in
-    let d = and-both (ltb i (length bytes)) (get_or bytes i 0 == byte) c.0 in
-    let l = true-less i (length bytes) d.0 in
+    let d = and_parts (ltb i (length bytes)) (get_or bytes i 0 == byte) c.0 in
+    let l = ltb-true i (length bytes) d.0 in
     let e = one-there (record { mark = 0; to = i }) m c.1 in
     let n = number-of bytes (drop (i + 1) bytes) i l refl in (
       passing (drop (i + 1) bytes),
-      rw (drop-here bytes i l) (sym (same-from (get_or bytes i 0) byte d.1), refl),
+      rw (drop-here bytes i l) (sym (eqb-true (get_or bytes i 0) byte d.1), refl),
       (i, l, refl),
       e ∙ ap (λ (x : ℕ). let k : Move = record { mark = 0; to = x } in k) (sym n),
     )
@@ -84,14 +78,14 @@ literal-goes bytes i byte m h =
 pub literal-gone : (bytes : List ℕ) (i byte : ℕ) (a : Step Within) → LiteralNext (drop i bytes) byte a → LiteralValid bytes a.to × Contains (literal_at bytes i byte) (numbered (literal_number bytes) a)
 literal-gone bytes i byte a h =
     elim (leb_tells (length bytes) i) [
-      | inl k ↦ let f : ⊥ = rw (drop-all bytes i k.1) at h in absurd f
+      | inl k ↦ let f : ⊥ = rw (drop_of_length-le bytes k.1) at h in absurd f
       | inr k ↦
           let c : LiteralNext (get_or bytes i 0 ∷ drop (i + 1) bytes) byte a = rw (drop-here bytes i k.1) at h in
           let n = number-of bytes (drop (i + 1) bytes) i k.1 refl in
           let mv : Move = record { mark = 0; to = i } in
           let e : numbered (literal_number bytes) a ≡ mv = ap (numbered (literal_number bytes)) c.1 ∙ ap (λ (x : ℕ). let z : Move = record { mark = 0; to = x } in z) n in
           let v : LiteralValid bytes a.to = rw (c.1) (i, k.1, refl) in
-          let t = both-and (ltb i (length bytes)) (get_or bytes i 0 == byte) (less-true i (length bytes) k.1) (from-same (get_or bytes i 0) byte (sym c.0)) in
+          let t = and_from (ltb i (length bytes)) (get_or bytes i 0 == byte) (lt-ltb i (length bytes) k.1) (eq-eqb (get_or bytes i 0) byte (sym c.0)) in
           (v, rw e (there-cond (ltb i (length bytes) && get_or bytes i 0 == byte) (mv ∷ []) mv t (there-one mv)))
     ]
 
@@ -106,14 +100,14 @@ over-nil (x ∷ rest) h = absurd h
 
 pub literal-ends : (bytes : List ℕ) (n : ℕ) → n < length bytes → (n + 1 == length bytes) ≡ true → LiteralDone (literal_state bytes n)
 literal-ends bytes n l h =
-    let e = same-from (n + 1) (length bytes) h in
-    let d : drop (n + 1) bytes ≡ [] = drop-all bytes (n + 1) (omega arith) in
+    let e = eqb-true (n + 1) (length bytes) h in
+    let d : drop (n + 1) bytes ≡ [] = drop_of_length-le bytes (omega arith) in
     rw d tt
 
 pub literal-ended : (bytes : List ℕ) (n : ℕ) → n < length bytes → LiteralDone (literal_state bytes n) → (n + 1 == length bytes) ≡ true
 literal-ended bytes n l h =
     let d : length bytes - (n + 1) ≡ 0 = sym (length-drop (n + 1) bytes) ∙ ap length (over-nil (drop (n + 1) bytes) h) in
-    from-same (n + 1) (length bytes) (omega (arith, d))
+    eq-eqb (n + 1) (length bytes) (omega (arith, d))
 
 pub literal-bare : (bytes : List ℕ) → is_nil bytes ≡ true → IsOver bytes
 literal-bare [] h = tt

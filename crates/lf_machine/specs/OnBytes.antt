@@ -1,5 +1,5 @@
 -- A machine whose moves stand on bytes alone.
-use Rattle.std.proofs.Common.{◌≡◌, ℕ, ◌<◌, ◌≤◌, List, [], Bool, true, false, cond, ltb, ap, arith, All, Contains}
+use Rattle.std.proofs.Common.{◌≡◌, ℕ, ◌<◌, ◌≤◌, List, [], Bool, true, false, cond, ltb, ap, arith, All}
 use Rattle.std.proofs.lemmas.Bool.Decides.{nat_tests}
 use Rattle.std.proofs.lemmas.List.Elements.{All-nil}
 use Rattle.lf_core.specs.Marked.{Machine, NoneTwice, IsMachine}
@@ -31,10 +31,6 @@ cond-once false ms h = tt
 cond-all : (Keeps : Move → Type 0) (b : Bool) (ms : List Move) → All Keeps ms → All Keeps (cond b ms [])
 cond-all Keeps true ms h = h
 cond-all Keeps false ms h = All-nil Keeps
-
-pub cond-there : (b : Bool) (ms : List Move) (m : Move) → Contains (cond b ms []) m → Contains ms m
-cond-there true ms m h = h
-cond-there false ms m h = absurd (omega (arith, h.1))
 
 pub on_bytes-is_machine : (machine : Machine) → machine.first < machine.count →
     ((point byte : ℕ) → point < machine.count → NoneTwice (machine.moves point byte)) →

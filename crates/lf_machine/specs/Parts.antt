@@ -4,13 +4,18 @@ use Rattle.lf_machine.specs.Paths.{Step, IsPath, last}
 
 -- A part of a line's machine is a literal, a slot or several of them. A run enters it by a step, goes on, and may
 -- stop where it is done; it may also be passed over, where it prints nothing.
-module _ {S : Type 0} (enter : ℕ → Step S → Type 0) (can : S → ℕ → Step S → Type 0) (done : S → Type 0) (empty : Type 0) where
-  -- A whole run of a part over a text.
-  abbrev pub IsWhole : List ℕ → List (Step S) → Type 0
-  IsWhole [] [] = empty
-  IsWhole (byte ∷ line) (m ∷ run) = enter byte m × IsPath can m.to line run × done (last m.to run)
-  IsWhole [] (m ∷ run) = ⊥
-  IsWhole (byte ∷ line) [] = ⊥
+pub record Part (S : Type 0) : Type 1 where
+  pub enter : ℕ → Step S → Type 0
+  pub can : S → ℕ → Step S → Type 0
+  pub done : S → Type 0
+  pub empty : Type 0
+
+-- A whole run of a part over a text.
+abbrev pub IsWhole : {S : Type 0} → Part S → List ℕ → List (Step S) → Type 0
+IsWhole part [] [] = part.empty
+IsWhole part (byte ∷ line) (m ∷ run) = part.enter byte m × IsPath part.can m.to line run × part.done (last m.to run)
+IsWhole part [] (m ∷ run) = ⊥
+IsWhole part (byte ∷ line) [] = ⊥
 
 -- the steps of the earlier part, whose marks are above those of the later
 abbrev pub early : {S T : Type 0} → ℕ → Step S → Step (S ⊎ T)
@@ -20,29 +25,26 @@ early above m = record { mark = above + m.mark; to = inl m.to }
 abbrev pub late : {S T : Type 0} → Step T → Step (S ⊎ T)
 late m = record { mark = m.mark; to = inr m.to }
 
--- two parts, one after the other
-module _ {S T : Type 0} (above : ℕ)
-    (enter₁ : ℕ → Step S → Type 0) (can₁ : S → ℕ → Step S → Type 0) (done₁ : S → Type 0) (empty₁ : Type 0)
-    (enter₂ : ℕ → Step T → Type 0) (can₂ : T → ℕ → Step T → Type 0) (done₂ : T → Type 0) (empty₂ : Type 0) where
+-- a run of the first part and then one of the second
+abbrev pub joined : {S T : Type 0} → ℕ → List (Step S) → List (Step T) → List (Step (S ⊎ T))
+joined above [] rb = map late rb
+joined above (a ∷ ra) rb = early above a ∷ joined above ra rb
+
+module _ {S T : Type 0} (above : ℕ) (one : Part S) (two : Part T) where
   -- a step into the parts
-  abbrev pub Enter : ℕ → Step (S ⊎ T) → Type 0
-  Enter byte m = ((a : Step S) × enter₁ byte a × (m ≡ early above a)) ⊎ (empty₁ × (b : Step T) × enter₂ byte b × (m ≡ late b))
+  abbrev Enter : ℕ → Step (S ⊎ T) → Type 0
+  Enter byte m = ((a : Step S) × one.enter byte a × (m ≡ early above a)) ⊎ (one.empty × (b : Step T) × two.enter byte b × (m ≡ late b))
 
   -- a step between their states
-  abbrev pub Can : S ⊎ T → ℕ → Step (S ⊎ T) → Type 0
-  Can (inl s) byte m = ((a : Step S) × can₁ s byte a × (m ≡ early above a)) ⊎ (done₁ s × (b : Step T) × enter₂ byte b × (m ≡ late b))
-  Can (inr t) byte m = (b : Step T) × can₂ t byte b × (m ≡ late b)
+  abbrev Can : S ⊎ T → ℕ → Step (S ⊎ T) → Type 0
+  Can (inl s) byte m = ((a : Step S) × one.can s byte a × (m ≡ early above a)) ⊎ (one.done s × (b : Step T) × two.enter byte b × (m ≡ late b))
+  Can (inr t) byte m = (b : Step T) × two.can t byte b × (m ≡ late b)
 
   -- the line may stop
-  abbrev pub Done : S ⊎ T → Type 0
-  Done (inl s) = done₁ s × empty₂
-  Done (inr t) = done₂ t
+  abbrev Done : S ⊎ T → Type 0
+  Done (inl s) = one.done s × two.empty
+  Done (inr t) = two.done t
 
-  -- both may print nothing
-  abbrev pub Empty : Type 0
-  Empty = empty₁ × empty₂
-
-  -- a run of the first and then one of the second
-  abbrev pub joined : List (Step S) → List (Step T) → List (Step (S ⊎ T))
-  joined [] rb = map late rb
-  joined (a ∷ ra) rb = early above a ∷ joined ra rb
+  -- two parts, one after the other
+  abbrev pub both : Part (S ⊎ T)
+  both = record { enter = Enter; can = Can; done = Done; empty = one.empty × two.empty }

@@ -1,39 +1,33 @@
 -- A piece of a format by numbers: its points, and the moves from each.
-use Rattle.std.proofs.Common.{◌≡◌, ℕ, ◌+◌, ◌*◌, inl, inr, List, [], ◌∷◌, ◌++◌, length, Bool, true, false, ◌==◌}
+use Rattle.std.proofs.Common.{ℕ, ◌+◌, ◌*◌, inl, inr, List, [], ◌∷◌, ◌++◌, length, Bool, true, false, ◌==◌}
 use Rattle.lf_core.specs.Domain.{IsDomain}
 use Rattle.lf_core.specs.declared.marked.Move.{Move}
 use Rattle.lf_escape.specs.Codes.{IsCode}
-use Rattle.lf_format.specs.Codings.{coding_takes, coding_word, coding_laws}
+use Rattle.lf_escape.specs.Codings.{coding_takes, coding_word, coding_laws}
 use Rattle.lf_format.specs.Kinds.{HoldsKind, plain_text, kind_machine, kind_size, kind_laws}
-use Rattle.lf_format.specs.declared.kind.Kind.{Kind}
-use Rattle.lf_format.specs.declared.kind.Coding.{Coding}
 use Rattle.lf_format.specs.declared.slot.Slot.{Slot as ASlot}
-use Rattle.lf_format.specs.declared.slot.Absent.{Absent}
 use Rattle.lf_format.specs.declared.format.Piece.{Piece}
 use Rattle.lf_format.specs.declared.format.Piece.TheVariants.{Literal, Slot}
 use Rattle.lf_machine.specs.Unquoted.{Within}
 use Rattle.lf_code_table.specs.Prefixes.{table-root, table-front, front-table}
 use Rattle.lf_machine.specs.RowNumbers.{IsPart, AllParts}
-use Rattle.lf_machine.specs.RowMoves.{PartRises, AllRise}
+use Rattle.lf_machine.specs.RowMoves.{PartRises, AllRise, Numbering}
 use Rattle.lf_machine.specs.SlotMoves.{IsLaid, is_nil}
-use Rattle.lf_machine.specs.Pieces.{slot_machine, PieceEnter, PieceCan, PieceDone, PieceEmpty, piece_marks, HoldsPiece, piece_text, piece_run}
+use Rattle.lf_machine.specs.Pieces.{machine_of, piece_row}
 use Rattle.lf_code_table.specs.Table.{table_of}
 use Rattle.lf_machine.specs.PlainNumbers.{plain_number, PlainValid, plain_state, plain_enter, plain_moves, plain_done, plain_empty, plain-enter_rises, plain-moves_rise, plain-range, plain-back, plain-enters, plain-entered, plain-goes, plain-gone, plain-ends, plain-ended, plain-bare, plain-bared}
 use Rattle.lf_machine.specs.FramedNumbers.{framed_number, FramedValid, framed_state, framed_enter, framed_moves, framed_done, framed-enter_rises, framed-moves_rise, framed-range, framed-back, framed-enters, framed-entered, framed-goes, framed-gone, framed-ends, framed-ended}
 use Rattle.lf_machine.specs.LiteralNumbers.{literal_at, literal_number, LiteralValid, literal_state, literal-range, literal-back, literal-goes, literal-gone, literal-rises, literal-ends, literal-ended, literal-bare, literal-bared}
+use Rattle.lf_machine.specs.Lists.{never-nil}
 
-never-nil : (xs : List ℕ) (b : ℕ) → xs ++ b ∷ [] ≡ [] → ⊥
-never-nil [] b e = cc
-never-nil (x ∷ xs) b e = cc
-
-pub laid : (kind : Kind) (code : Coding) (absent : Absent) (present : Bool) → IsLaid (slot_machine kind code absent present)
-laid kind code absent present =
-    let k : IsDomain (HoldsKind kind) (plain_text kind) (kind_machine kind) (kind_size kind) = kind_laws kind in
-    let c : IsCode (coding_takes code) (coding_word code) = coding_laws code in
+pub laid : (s : ASlot) → IsLaid (machine_of s)
+laid s =
+    let k : IsDomain (HoldsKind s.kind) (plain_text s.kind) (kind_machine s.kind) (kind_size s.kind) = kind_laws s.kind in
+    let c : IsCode (coding_takes s.code) (coding_word s.code) = coding_laws s.code in
     record {
-      root = table-root (coding_takes code) (coding_word code) 256;
-      fronts = λ read b j h. elim (table-front (coding_takes code) (coding_word code) 256 (read ++ b ∷ []) (j, h)) [ inl e ↦ absurd (never-nil read b e) | inr f ↦ f ];
-      front = λ text post l x t e. front-table (coding_takes code) (coding_word code) 256 l x text post (c.bytes l t) t e;
+      root = table-root (coding_takes s.code) (coding_word s.code) 256;
+      fronts = λ read b j h. elim (table-front (coding_takes s.code) (coding_word s.code) 256 (read ++ b ∷ []) (j, h)) [ inl e ↦ absurd (never-nil read b e) | inr f ↦ f ];
+      front = λ text post l x t e. front-table (coding_takes s.code) (coding_word s.code) 256 l x text post (c.bytes l t) t e;
       bytes = c.bytes;
       begins = k.begins;
       stays = λ q l t h e. (k.stays q l t h e).1;
@@ -46,37 +40,37 @@ slot_count true s = (kind_machine s.kind).count * length (table_of s.code) + 3
 
 -- the number of a state of a slot
 abbrev pub slot_number : Bool → ASlot → Within → ℕ
-slot_number false s = plain_number (slot_machine s.kind s.code s.absent s.present)
-slot_number true s = framed_number (slot_machine s.kind s.code s.absent s.present)
+slot_number false s = plain_number (machine_of s)
+slot_number true s = framed_number (machine_of s)
 
 -- the states that have a number
 abbrev pub SlotValid : Bool → ASlot → Within → Type 0
-SlotValid false s = PlainValid (slot_machine s.kind s.code s.absent s.present)
-SlotValid true s = FramedValid (slot_machine s.kind s.code s.absent s.present)
+SlotValid false s = PlainValid (machine_of s)
+SlotValid true s = FramedValid (machine_of s)
 
 -- the state of a number
 abbrev pub slot_state : Bool → ASlot → ℕ → Within
-slot_state false s = plain_state (slot_machine s.kind s.code s.absent s.present)
-slot_state true s = framed_state (slot_machine s.kind s.code s.absent s.present)
+slot_state false s = plain_state (machine_of s)
+slot_state true s = framed_state (machine_of s)
 
 -- the moves into a slot
 abbrev pub slot_enters : Bool → ASlot → ℕ → List Move
-slot_enters false s = plain_enter (slot_machine s.kind s.code s.absent s.present)
-slot_enters true s = framed_enter (slot_machine s.kind s.code s.absent s.present)
+slot_enters false s = plain_enter (machine_of s)
+slot_enters true s = framed_enter (machine_of s)
 
 -- the moves from a point of a slot
 abbrev pub slot_moves : Bool → ASlot → ℕ → ℕ → List Move
-slot_moves false s = plain_moves (slot_machine s.kind s.code s.absent s.present)
-slot_moves true s = framed_moves (slot_machine s.kind s.code s.absent s.present)
+slot_moves false s = plain_moves (machine_of s)
+slot_moves true s = framed_moves (machine_of s)
 
 -- whether a slot may end at a point
 abbrev pub slot_is_done : Bool → ASlot → ℕ → Bool
-slot_is_done false s = plain_done (slot_machine s.kind s.code s.absent s.present)
-slot_is_done true s = framed_done (slot_machine s.kind s.code s.absent s.present)
+slot_is_done false s = plain_done (machine_of s)
+slot_is_done true s = framed_done (machine_of s)
 
 -- whether a slot may print nothing, or nothing between its quotes
 abbrev pub slot_bare : ASlot → Bool
-slot_bare s = plain_empty (slot_machine s.kind s.code s.absent s.present)
+slot_bare s = plain_empty (machine_of s)
 
 -- whether a slot may print nothing
 abbrev pub slot_is_empty : Bool → ASlot → Bool
@@ -123,9 +117,22 @@ abbrev pub PieceValid : Piece → Within → Type 0
 PieceValid (Literal bytes) = LiteralValid bytes
 PieceValid (Slot s) = SlotValid s.quoted s
 
+-- the points of pieces
+abbrev pub piece_numbering : Numbering Piece Within
+piece_numbering = record {
+  count = piece_count;
+  enters = piece_enters;
+  moves = piece_moves;
+  is_done = piece_is_done;
+  is_empty = piece_is_empty;
+  number = piece_number;
+  state = piece_state;
+  Valid = PieceValid;
+}
+
 -- the piece's moves are its steps, by numbers
 abbrev pub Numbered : Piece → Type 0
-Numbered p = IsPart PieceEnter PieceCan PieceDone PieceEmpty piece_marks HoldsPiece piece_text piece_run piece_count piece_enters piece_moves piece_is_done piece_is_empty piece_number piece_state PieceValid p
+Numbered p = IsPart piece_row piece_numbering p
 
 literal-numbered : (bytes : List ℕ) → Numbered (Literal bytes)
 literal-numbered bytes = record {
@@ -141,52 +148,52 @@ literal-numbered bytes = record {
   bared = literal-bared bytes;
 }
 
-slot-numbered : (name : List ℕ) (kind : Kind) (code : Coding) (absent : Absent) (present quoted : Bool) → Numbered (Slot (record { name = name; kind = kind; code = code; absent = absent; present = present; quoted = quoted }))
-slot-numbered name kind code absent present false = record {
-  range = plain-range (slot_machine kind code absent present) (laid kind code absent present);
-  back = plain-back (slot_machine kind code absent present) (laid kind code absent present);
-  enters_by = plain-enters (slot_machine kind code absent present) (laid kind code absent present);
-  entered = plain-entered (slot_machine kind code absent present) (laid kind code absent present);
-  goes = plain-goes (slot_machine kind code absent present) (laid kind code absent present);
-  gone = plain-gone (slot_machine kind code absent present) (laid kind code absent present);
-  ends = plain-ends (slot_machine kind code absent present) (laid kind code absent present);
-  ended = plain-ended (slot_machine kind code absent present) (laid kind code absent present);
-  bare = plain-bare (slot_machine kind code absent present);
-  bared = plain-bared (slot_machine kind code absent present);
+slot-numbered : (quoted : Bool) (s : ASlot) → Numbered (Slot (record s { quoted = quoted }))
+slot-numbered false s = record {
+  range = plain-range (machine_of s) (laid s);
+  back = plain-back (machine_of s) (laid s);
+  enters_by = plain-enters (machine_of s) (laid s);
+  entered = plain-entered (machine_of s) (laid s);
+  goes = plain-goes (machine_of s) (laid s);
+  gone = plain-gone (machine_of s) (laid s);
+  ends = plain-ends (machine_of s) (laid s);
+  ended = plain-ended (machine_of s) (laid s);
+  bare = plain-bare (machine_of s);
+  bared = plain-bared (machine_of s);
 }
-slot-numbered name kind code absent present true = record {
-  range = framed-range (slot_machine kind code absent present) (laid kind code absent present);
-  back = framed-back (slot_machine kind code absent present) (laid kind code absent present);
-  enters_by = framed-enters (slot_machine kind code absent present) (laid kind code absent present);
-  entered = framed-entered (slot_machine kind code absent present) (laid kind code absent present);
-  goes = framed-goes (slot_machine kind code absent present) (laid kind code absent present);
-  gone = framed-gone (slot_machine kind code absent present) (laid kind code absent present);
-  ends = framed-ends (slot_machine kind code absent present) (laid kind code absent present);
-  ended = framed-ended (slot_machine kind code absent present) (laid kind code absent present);
+slot-numbered true s = record {
+  range = framed-range (machine_of s) (laid s);
+  back = framed-back (machine_of s) (laid s);
+  enters_by = framed-enters (machine_of s) (laid s);
+  entered = framed-entered (machine_of s) (laid s);
+  goes = framed-goes (machine_of s) (laid s);
+  gone = framed-gone (machine_of s) (laid s);
+  ends = framed-ends (machine_of s) (laid s);
+  ended = framed-ended (machine_of s) (laid s);
   bare = λ h. cc;
   bared = λ h. absurd h;
 }
 
 pub piece-numbered : (p : Piece) → Numbered p
 piece-numbered (Literal bytes) = literal-numbered bytes
-piece-numbered (Slot s) = slot-numbered s.name s.kind s.code s.absent s.present s.quoted
+piece-numbered (Slot s) = slot-numbered s.quoted s
 
-pub all-numbered : (ps : List Piece) → AllParts PieceEnter PieceCan PieceDone PieceEmpty piece_marks HoldsPiece piece_text piece_run piece_count piece_enters piece_moves piece_is_done piece_is_empty piece_number piece_state PieceValid ps
+pub all-numbered : (ps : List Piece) → AllParts piece_row piece_numbering ps
 all-numbered [] = tt
 all-numbered (p ∷ ps) = (piece-numbered p, all-numbered ps)
 
 -- the marks of the piece's moves rise
 abbrev pub PieceRises : Piece → Type 0
-PieceRises p = PartRises piece_count piece_marks piece_enters piece_moves piece_is_done piece_is_empty p
+PieceRises p = PartRises piece_row piece_numbering p
 
-slot-rises : (name : List ℕ) (kind : Kind) (code : Coding) (absent : Absent) (present quoted : Bool) → PieceRises (Slot (record { name = name; kind = kind; code = code; absent = absent; present = present; quoted = quoted }))
-slot-rises name kind code absent present false = record { into = plain-enter_rises (slot_machine kind code absent present); at = plain-moves_rise (slot_machine kind code absent present) }
-slot-rises name kind code absent present true = record { into = framed-enter_rises (slot_machine kind code absent present); at = framed-moves_rise (slot_machine kind code absent present) }
+slot-rises : (quoted : Bool) (s : ASlot) → PieceRises (Slot (record s { quoted = quoted }))
+slot-rises false s = record { into = plain-enter_rises (machine_of s); at = plain-moves_rise (machine_of s) }
+slot-rises true s = record { into = framed-enter_rises (machine_of s); at = framed-moves_rise (machine_of s) }
 
 pub piece-rises : (p : Piece) → PieceRises p
 piece-rises (Literal bytes) = record { into = λ byte. literal-rises bytes 0 byte; at = λ n byte. literal-rises bytes (n + 1) byte }
-piece-rises (Slot s) = slot-rises s.name s.kind s.code s.absent s.present s.quoted
+piece-rises (Slot s) = slot-rises s.quoted s
 
-pub all-rise : (ps : List Piece) → AllRise piece_count piece_marks piece_enters piece_moves piece_is_done piece_is_empty ps
+pub all-rise : (ps : List Piece) → AllRise piece_row piece_numbering ps
 all-rise [] = tt
 all-rise (p ∷ ps) = (piece-rises p, all-rise ps)

@@ -3,12 +3,11 @@ use Rattle.std.proofs.Common.{◌≡◌, ℕ, ◌≤◌, List, [], ◌∷◌, le
 use Rattle.lf_core.specs.declared.values.Value.{Value}
 use Rattle.lf_core.specs.declared.values.Value.TheVariants.{Missing}
 use Rattle.lf_escape.specs.Codes.{IsCode}
-use Rattle.lf_format.specs.Codings.{coding_takes, coding_word, coding_laws}
+use Rattle.lf_escape.specs.Codings.{coding_takes, coding_word, coding_laws}
 use Rattle.lf_format.specs.Kinds.{plain_text, kind_machine}
 use Rattle.lf_format.specs.Slots.{Holds, slot_text}
-use Rattle.lf_format.specs.Keeps.{TakesPlain}
 use Rattle.lf_format.specs.declared.kind.Kind.{Kind}
-use Rattle.lf_format.specs.declared.kind.Coding.{Coding}
+use Rattle.lf_escape.specs.declared.coding.Coding.{Coding}
 use Rattle.lf_format.specs.declared.slot.Slot.{Slot as ASlot}
 use Rattle.lf_format.specs.declared.slot.Absent.{Absent}
 use Rattle.lf_format.specs.declared.slot.Absent.TheVariants.{No, Dash, DashTwo, Blank}
@@ -17,9 +16,11 @@ use Rattle.lf_format.specs.declared.format.Piece.TheVariants.{Literal, Slot}
 use Rattle.lf_machine.specs.Paths.{Step}
 use Rattle.lf_machine.specs.SlotMachine.{SlotMachine}
 use Rattle.lf_code_table.specs.Table.{table_of}
-use Rattle.lf_machine.specs.Unquoted.{Said, nothing, letters, Within, SlotEnter, SlotCan, SlotDone, SlotEmpty, HoldsSaid, said_text, said_run}
-use Rattle.lf_machine.specs.Quoted.{QuotedEnter, QuotedCan, QuotedDone, HoldsQuoted, quoted_text, quoted_run}
-use Rattle.lf_machine.specs.Literal.{LiteralNext, LiteralCan, LiteralDone, IsOver, literal_run}
+use Rattle.lf_machine.specs.Unquoted.{Said, nothing, letters, Within, said_run, plain_part}
+use Rattle.lf_machine.specs.Quoted.{quoted_run, framed_part}
+use Rattle.lf_machine.specs.Literal.{literal_run, literal_part}
+use Rattle.lf_machine.specs.Rows.{Row}
+use Rattle.lf_machine.specs.Parts.{Part}
 
 -- absence prints a dash
 abbrev pub is_dash : Absent → Bool
@@ -80,107 +81,24 @@ slot_machine kind code absent present = record {
   apart_blank = is_blank absent;
 }
 
-module _ (kind : Kind) (code : Coding) (absent : Absent) (present : Bool) where
-  -- a step into a slot without quotes
-  abbrev pub PlainEnter : ℕ → Step Within → Type 0
-  PlainEnter = SlotEnter (slot_machine kind code absent present)
+-- the part of a slot
+abbrev pub machine_of : ASlot → SlotMachine
+machine_of s = slot_machine s.kind s.code s.absent s.present
 
-  -- a step between its states
-  abbrev pub PlainCan : Within → ℕ → Step Within → Type 0
-  PlainCan = SlotCan (slot_machine kind code absent present)
-
-  -- the slot may end
-  abbrev pub PlainDone : Within → Type 0
-  PlainDone = SlotDone (slot_machine kind code absent present)
-
-  -- the slot may print nothing
-  abbrev pub PlainEmpty : Type 0
-  PlainEmpty = SlotEmpty (slot_machine kind code absent present)
-
-  -- the slot holds what is said
-  abbrev pub PlainSaid : Said → Type 0
-  PlainSaid = HoldsSaid (slot_machine kind code absent present)
-
-  -- the text of what is said
-  abbrev pub unquoted_text : Said → List ℕ
-  unquoted_text = said_text (slot_machine kind code absent present)
-
-  -- the run of what is said
-  abbrev pub plain_run : Said → List (Step Within)
-  plain_run = said_run (slot_machine kind code absent present)
-
-  -- a step into a slot with quotes
-  abbrev pub QuoteEnter : ℕ → Step Within → Type 0
-  QuoteEnter = QuotedEnter (slot_machine kind code absent present)
-
-  -- a step between its states
-  abbrev pub QuoteCan : Within → ℕ → Step Within → Type 0
-  QuoteCan = QuotedCan (slot_machine kind code absent present)
-
-  -- the slot may end
-  abbrev pub QuoteDone : Within → Type 0
-  QuoteDone = QuotedDone (slot_machine kind code absent present)
-
-  -- the slot holds what is said
-  abbrev pub QuoteSaid : Said → Type 0
-  QuoteSaid = HoldsQuoted (slot_machine kind code absent present)
-
-  -- the text of what is said
-  abbrev pub quote_text : Said → List ℕ
-  quote_text = quoted_text (slot_machine kind code absent present)
-
-  -- the run of what is said
-  abbrev pub quote_run : Said → List (Step Within)
-  quote_run = quoted_run (slot_machine kind code absent present)
-
-  -- the code takes each letter of the domain's plain texts
-  abbrev pub Takes : Type 0
-  Takes = TakesPlain kind code
-
--- a piece as a part of the line's machine
-abbrev pub slot_enter : Bool → ASlot → ℕ → Step Within → Type 0
-slot_enter false s = PlainEnter s.kind s.code s.absent s.present
-slot_enter true s = QuoteEnter s.kind s.code s.absent s.present
-
--- a step between the states of a slot
-abbrev pub slot_can : Bool → ASlot → Within → ℕ → Step Within → Type 0
-slot_can false s = PlainCan s.kind s.code s.absent s.present
-slot_can true s = QuoteCan s.kind s.code s.absent s.present
-
--- a slot may end
-abbrev pub slot_done : Bool → ASlot → Within → Type 0
-slot_done false s = PlainDone s.kind s.code s.absent s.present
-slot_done true s = QuoteDone s.kind s.code s.absent s.present
-
--- a slot may print nothing
-abbrev pub slot_empty : Bool → ASlot → Type 0
-slot_empty false s = PlainEmpty s.kind s.code s.absent s.present
-slot_empty true s = ⊥
+-- a slot as a part
+abbrev pub slot_part : Bool → ASlot → Part Within
+slot_part false s = plain_part (machine_of s)
+slot_part true s = framed_part (machine_of s)
 
 -- the run of a value in a slot
 abbrev pub slot_run : Bool → ASlot → Value → List (Step Within)
-slot_run false s v = plain_run s.kind s.code s.absent s.present (said_of s.kind v)
-slot_run true s v = quote_run s.kind s.code s.absent s.present (said_of s.kind v)
+slot_run false s v = said_run (machine_of s) (said_of s.kind v)
+slot_run true s v = quoted_run (machine_of s) (said_of s.kind v)
 
--- a step into a piece
-abbrev pub PieceEnter : Piece → ℕ → Step Within → Type 0
-PieceEnter (Literal bytes) = LiteralNext bytes
-PieceEnter (Slot s) = slot_enter s.quoted s
-
--- a step between the states of a piece
-abbrev pub PieceCan : Piece → Within → ℕ → Step Within → Type 0
-PieceCan (Literal bytes) = LiteralCan
-PieceCan (Slot s) = slot_can s.quoted s
-
--- a piece may end
-abbrev pub PieceDone : Piece → Within → Type 0
-PieceDone (Literal bytes) = LiteralDone
-PieceDone (Slot s) = slot_done s.quoted s
-
--- a piece may print nothing
-abbrev pub PieceEmpty : Piece → Type 0
-PieceEmpty (Literal bytes) = IsOver bytes
-PieceEmpty (Slot s) = slot_empty s.quoted s
+-- a piece as a part of the line's machine
+abbrev pub piece_part : Piece → Part Within
+piece_part (Literal bytes) = literal_part bytes
+piece_part (Slot s) = slot_part s.quoted s
 
 -- how many marks a piece has: three, and one for each letter
 abbrev pub piece_marks : Piece → ℕ
@@ -200,3 +118,13 @@ piece_text (Slot s) v = slot_text s v
 abbrev pub piece_run : Piece → Value → List (Step Within)
 piece_run (Literal bytes) v = literal_run bytes
 piece_run (Slot s) v = slot_run s.quoted s v
+
+-- the pieces as parts in a row
+abbrev pub piece_row : Row Piece Within Value
+piece_row = record {
+  part = piece_part;
+  marks = piece_marks;
+  Holds = HoldsPiece;
+  text = piece_text;
+  run = piece_run;
+}

@@ -5,11 +5,12 @@ use Rattle.lf_machine.specs.declared.place.Place.{Place}
 use Rattle.lf_machine.specs.declared.place.Aim.{Aim}
 use Rattle.lf_machine.specs.RowMoves.{shift}
 use Rattle.lf_machine.specs.PlainNumbers.{redirect}
+use Rattle.lf_machine.specs.Sums.{most_sum}
 
 -- The marks and the points of a piece's moves stay small at the place.
 pub record IsNear (place : Place) : Type 0 where
   pub low : place.above < 2 ^ 21
-  pub early : place.base ≤ 2 ^ 20
+  pub early : place.base ≤ most_sum
 
 -- a list of one move
 abbrev pub one_move : ℕ → ℕ → List Move

@@ -1,39 +1,16 @@
 -- A slot without quotes by numbers: its points, and the moves from each.
-use Rattle.std.proofs.Common.{◌≡◌, ℕ, ◌+◌, ◌*◌, ◌/◌, ◌%◌, ◌<◌, ◌≤◌, ◌⊎◌, inl, inr, List, [], ◌∷◌, ◌++◌, length, get_or, map, Option, None, Some, Bool, true, false, cond, not, ltb, ◌==◌, ◌&&◌, ◌||◌, refl, sym, ap, ◌∙◌, arith, Contains}
-use Rattle.std.proofs.lemmas.Bool.Decides.{nat_tests, leb_tells}
+use Rattle.std.proofs.Common.{◌≡◌, ℕ, ◌+◌, ◌*◌, ◌/◌, ◌%◌, ◌<◌, ◌⊎◌, inl, inr, List, [], ◌∷◌, ◌++◌, length, get_or, map, Option, None, Some, Bool, true, false, cond, not, ltb, ◌==◌, ◌&&◌, ◌||◌, refl, sym, ap, ◌∙◌, arith, Contains}
+use Rattle.std.proofs.lemmas.Bool.Decides.{leb_tells}
 use Rattle.std.proofs.lemmas.List.Elements.{Contains-append_cases, Contains-append_left, Contains-append_right}
-use Rattle.std.proofs.lemmas.Bool.{cases_Bool}
+use Rattle.std.proofs.lemmas.Bool.{cases_Bool, eqb-true, eq-eqb, ne_eqb, lt-ltb, le-ltb, and_parts, and_from}
 use Rattle.lf_core.specs.declared.marked.Move.{Move}
 use Rattle.lf_machine.specs.Paths.{Step}
 use Rattle.lf_machine.specs.Letters.{At, CanStep}
-use Rattle.lf_machine.specs.Lists.{none-there, one-there, there-one, map-from, map-into, Rises, rises-append, rises-more}
+use Rattle.lf_machine.specs.Lists.{none-there, one-there, there-one, map-from, map-into, Rises, rises-append, rises-more, cond-there, there-cond, rises-guard, rises-either}
 use Rattle.lf_machine.specs.Numbered.{numbered}
-use Rattle.lf_machine.specs.RowNumbers.{cond-there, there-cond, and-both, both-and}
 use Rattle.lf_machine.specs.Unquoted.{Within, inside, missing, lone, opened, closed, left, wrap, dashed, SlotEnter, SlotCan, SlotDone, SlotEmpty, wrap_first}
 use Rattle.lf_machine.specs.SlotMoves.{IsLaid, at_moves, at_number, ValidAt, at_state, at-rises, at-range, at-back, at-first, at-goes, at-gone, at_root, root-done, done-root}
 use Rattle.lf_machine.specs.SlotMachine.{SlotMachine}
-
-pub same-from : (a b : ℕ) → (a == b) ≡ true → a ≡ b
-same-from a b h = grind (arith, nat_tests)
-
-pub from-same : (a b : ℕ) → a ≡ b → (a == b) ≡ true
-from-same a b h = grind (arith, nat_tests)
-
-pub not-same : (a b : ℕ) → (a ≡ b → ⊥) → (a == b) ≡ false
-not-same a b h = grind (arith, nat_tests)
-
-pub less-true : (a b : ℕ) → a < b → ltb a b ≡ true
-less-true a b h = grind (arith, nat_tests)
-
-pub less-false : (a b : ℕ) → b ≤ a → ltb a b ≡ false
-less-false a b h = grind (arith, nat_tests)
-
-pub true-less : (a b : ℕ) → ltb a b ≡ true → a < b
-true-less a b h = grind (arith, nat_tests)
-
-pub rises-guard : (b : Bool) (low high : ℕ) (ms : List Move) → low ≤ high → Rises low high ms → Rises low high (cond b ms [])
-rises-guard true low high ms l h = h
-rises-guard false low high ms l h = l
 
 -- a first letter that is a dash may have to go on
 abbrev pub redirect : Bool → ℕ → Move → Move
@@ -104,17 +81,13 @@ module _ (sm : SlotMachine) where
   lone-rises None byte = omega arith
   lone-rises (Some q) byte = rises-more 0 2 259 (at_moves sm q [] byte) (omega arith) (at-rises sm q [] byte)
 
-  pub either-rises : (b : Bool) (xs ys : List Move) → Rises 0 259 xs → Rises 0 259 ys → Rises 0 259 (cond b xs ys)
-  either-rises true xs ys h g = h
-  either-rises false xs ys h g = g
-
   pub plain-moves_rise : (n byte : ℕ) → Rises 0 259 (plain_moves n byte)
   plain-moves_rise n byte =
       let q = n / length sm.table in
       let read = get_or sm.table (n % length sm.table) [] in
-      either-rises (ltb n top) (at_moves sm q read byte) (cond (n == top) [] (lone_moves (sm.next sm.first 45) byte))
+      rises-either (ltb n top) 0 259 (at_moves sm q read byte) (cond (n == top) [] (lone_moves (sm.next sm.first 45) byte))
       (rises-more 0 2 259 (at_moves sm q read byte) (omega arith) (at-rises sm q read byte))
-      (either-rises (n == top) [] (lone_moves (sm.next sm.first 45) byte) (omega arith) (lone-rises (sm.next sm.first 45) byte))
+      (rises-either (n == top) 0 259 [] (lone_moves (sm.next sm.first 45) byte) (omega arith) (lone-rises (sm.next sm.first 45) byte))
 
   module _ (is : IsLaid sm) where
     pub plain-range : (s : Within) → PlainValid s → plain_number s < top + 2
@@ -127,28 +100,19 @@ module _ (sm : SlotMachine) where
 
     pub plain-back : (s : Within) → PlainValid s → plain_state (plain_number s) ≡ s
     plain-back (inside s) v =
-        let t = less-true (at_number sm s) top (at-range sm is s v) in
+        let t = lt-ltb (at_number sm s) top (at-range sm is s v) in
         rw t (ap inside (at-back sm is s v))
     plain-back missing v =
-        let t = less-false top top (omega arith) in
-        let u = from-same top top refl in
+        let t = le-ltb top top (omega arith) in
+        let u = eq-eqb top top refl in
         rw (t, u) refl
     plain-back lone v =
-        let t = less-false (top + 1) top (omega arith) in
-        let u = not-same (top + 1) top (λ e. omega arith) in
+        let t = le-ltb (top + 1) top (omega arith) in
+        let u = ne_eqb (top + 1) top (λ e. omega arith) in
         rw (t, u) refl
     plain-back opened v = absurd v
     plain-back closed v = absurd v
     plain-back (left rest) v = absurd v
-
-    abbrev Enters : ℕ → Step Within → Type 0
-    Enters = SlotEnter sm
-
-    abbrev Goes : Within → ℕ → Step Within → Type 0
-    Goes = SlotCan sm
-
-    abbrev first_wrap : Step At → Step Within
-    first_wrap = wrap_first sm
 
     either-number : (b : Bool) (s : At) → cond b (top + 1) (at_number sm s) ≡ plain_number (cond b lone (inside s))
     either-number true s = refl
@@ -158,30 +122,30 @@ module _ (sm : SlotMachine) where
     either-valid true s v = tt
     either-valid false s v = v
 
-    first-number : (k : Step At) → redirect sm.apart_dash (top + 1) (numbered (at_number sm) k) ≡ numbered plain_number (first_wrap k)
+    first-number : (k : Step At) → redirect sm.apart_dash (top + 1) (numbered (at_number sm) k) ≡ numbered plain_number (wrap_first sm k)
     first-number k = ap (λ (n : ℕ). let m : Move = record { mark = k.mark; to = n } in m) (either-number (sm.apart_dash && k.mark == 48) k.to)
 
-    pub plain-enters : (byte : ℕ) (m : Move) → Contains (plain_enter byte) m → (a : Step Within) × Enters byte a × PlainValid a.to × (m ≡ numbered plain_number a)
+    pub plain-enters : (byte : ℕ) (m : Move) → Contains (plain_enter byte) m → (a : Step Within) × SlotEnter sm byte a × PlainValid a.to × (m ≡ numbered plain_number a)
     plain-enters byte m h =
         elim (Contains-append_cases (cond (sm.dash && byte == 45) (record { mark = 1; to = top } ∷ []) []) (map (redirect sm.apart_dash (top + 1)) (at_moves sm sm.first [] byte)) m h) [
           | inl i ↦
               let c = cond-there (sm.dash && byte == 45) (record { mark = 1; to = top } ∷ []) m i in
-              let d = and-both sm.dash (byte == 45) c.0 in
-              (dashed, inl (d.0, same-from byte 45 d.1, refl), tt, one-there (record { mark = 1; to = top }) m c.1)
+              let d = and_parts sm.dash (byte == 45) c.0 in
+              (dashed, inl (d.0, eqb-true byte 45 d.1, refl), tt, one-there (record { mark = 1; to = top }) m c.1)
           | inr i ↦
               let f = map-from (redirect sm.apart_dash (top + 1)) (at_moves sm sm.first [] byte) m i in
               let g = at-goes sm is sm.first [] byte f.0 is.begins f.1 in
-              (first_wrap g.0, inr (g.0, g.1, refl), either-valid (sm.apart_dash && g.0.mark == 48) g.0.to g.2, f.2 ∙ ap (redirect sm.apart_dash (top + 1)) g.3 ∙ first-number g.0)
+              (wrap_first sm g.0, inr (g.0, g.1, refl), either-valid (sm.apart_dash && g.0.mark == 48) g.0.to g.2, f.2 ∙ ap (redirect sm.apart_dash (top + 1)) g.3 ∙ first-number g.0)
         ]
 
-    pub plain-entered : (byte : ℕ) (a : Step Within) → Enters byte a → PlainValid a.to × Contains (plain_enter byte) (numbered plain_number a)
+    pub plain-entered : (byte : ℕ) (a : Step Within) → SlotEnter sm byte a → PlainValid a.to × Contains (plain_enter byte) (numbered plain_number a)
     plain-entered byte a h =
         elim h [
           | inl i ↦
               let mv : Move = record { mark = 1; to = top } in
               let e : numbered plain_number a ≡ mv = ap (numbered plain_number) i.2 in
               let v : PlainValid a.to = rw (i.2) tt in
-              let c : Contains (cond (sm.dash && byte == 45) (mv ∷ []) []) mv = there-cond (sm.dash && byte == 45) (mv ∷ []) mv (both-and sm.dash (byte == 45) i.0 (from-same byte 45 i.1)) (there-one mv) in
+              let c : Contains (cond (sm.dash && byte == 45) (mv ∷ []) []) mv = there-cond (sm.dash && byte == 45) (mv ∷ []) mv (and_from sm.dash (byte == 45) i.0 (eq-eqb byte 45 i.1)) (there-one mv) in
               (v, rw e (Contains-append_left (cond (sm.dash && byte == 45) (mv ∷ []) []) (map (redirect sm.apart_dash (top + 1)) (at_moves sm sm.first [] byte)) mv c))
           | inr i ↦
               let g = at-gone sm is sm.first [] byte i.0 is.begins i.1 in
@@ -191,17 +155,17 @@ module _ (sm : SlotMachine) where
               (v, Contains-append_right (cond (sm.dash && byte == 45) (record { mark = 1; to = top } ∷ []) []) (map (redirect sm.apart_dash (top + 1)) (at_moves sm sm.first [] byte)) (numbered plain_number a) (rw e at c))
         ]
 
-    lone-goes : (o : Option ℕ) (byte : ℕ) (m : Move) → sm.next sm.first 45 ≡ o → Contains (lone_moves o byte) m → (a : Step Within) × Goes lone byte a × PlainValid a.to × (m ≡ numbered plain_number a)
+    lone-goes : (o : Option ℕ) (byte : ℕ) (m : Move) → sm.next sm.first 45 ≡ o → Contains (lone_moves o byte) m → (a : Step Within) × SlotCan sm lone byte a × PlainValid a.to × (m ≡ numbered plain_number a)
     lone-goes None byte m e h = absurd (none-there m h)
     lone-goes (Some q) byte m e h =
         let g = at-goes sm is q [] byte m (is.stays sm.first 45 q is.begins e) h in
         (wrap g.0, (q, g.0, e, g.1, refl), g.2, g.3)
 
-    pub plain-goes : (n byte : ℕ) (m : Move) → n < top + 2 → Contains (plain_moves n byte) m → (a : Step Within) × Goes (plain_state n) byte a × PlainValid a.to × (m ≡ numbered plain_number a)
+    pub plain-goes : (n byte : ℕ) (m : Move) → n < top + 2 → Contains (plain_moves n byte) m → (a : Step Within) × SlotCan sm (plain_state n) byte a × PlainValid a.to × (m ≡ numbered plain_number a)
     plain-goes n byte m l h =
         elim (leb_tells top n) [
           | inl k ↦
-              let t = less-false n top k.1 in
+              let t = le-ltb n top k.1 in
               elim (cases_Bool (n == top)) [
                 | inl u ↦ let c : Contains [] m = rw (t, u) at h in absurd (none-there m c)
                 | inr u ↦
@@ -209,7 +173,7 @@ module _ (sm : SlotMachine) where
                     rw (t, u) (lone-goes (sm.next sm.first 45) byte m refl c)
               ]
           | inr k ↦
-              let t = less-true n top k.1 in
+              let t = lt-ltb n top k.1 in
               let c : Contains (at_moves sm (n / length sm.table) (get_or sm.table (n % length sm.table) []) byte) m = rw t at h in
               let g = at-goes sm is (n / length sm.table) (get_or sm.table (n % length sm.table) []) byte m (at-first sm is n k.1) c in
               rw t (wrap g.0, (g.0, g.1, refl), g.2, g.3)
@@ -222,57 +186,54 @@ module _ (sm : SlotMachine) where
         let g = at-gone sm is q [] byte k (is.stays sm.first 45 q is.begins f) c in
         (g.0, rw z g.1)
 
-    pub plain-gone : (n byte : ℕ) (a : Step Within) → n < top + 2 → Goes (plain_state n) byte a → PlainValid a.to × Contains (plain_moves n byte) (numbered plain_number a)
+    pub plain-gone : (n byte : ℕ) (a : Step Within) → n < top + 2 → SlotCan sm (plain_state n) byte a → PlainValid a.to × Contains (plain_moves n byte) (numbered plain_number a)
     plain-gone n byte a l h =
         elim (leb_tells top n) [
           | inl k ↦
-              let t = less-false n top k.1 in
+              let t = le-ltb n top k.1 in
               elim (cases_Bool (n == top)) [
-                | inl u ↦ let c : Goes missing byte a = rw (t, u) at h in absurd c
+                | inl u ↦ let c : SlotCan sm missing byte a = rw (t, u) at h in absurd c
                 | inr u ↦
-                    let c : Goes lone byte a = rw (t, u) at h in
+                    let c : SlotCan sm lone byte a = rw (t, u) at h in
                     let g = lone-gone (sm.next sm.first 45) c.0 byte c.1 c.2 c.2 c.3 in
                     let v : PlainValid a.to = rw (c.4) g.0 in
                     let e : numbered plain_number a ≡ numbered (at_number sm) c.1 = ap (numbered plain_number) c.4 in
                     (v, rw (t, u, e) g.1)
               ]
           | inr k ↦
-              let t = less-true n top k.1 in
-              let c : Goes (inside (at_state sm n)) byte a = rw t at h in
+              let t = lt-ltb n top k.1 in
+              let c : SlotCan sm (inside (at_state sm n)) byte a = rw t at h in
               let g = at-gone sm is (n / length sm.table) (get_or sm.table (n % length sm.table) []) byte c.0 (at-first sm is n k.1) c.1 in
               let v : PlainValid a.to = rw (c.2) g.0 in
               let e : numbered plain_number a ≡ numbered (at_number sm) c.0 = ap (numbered plain_number) c.2 in
               (v, rw (t, e) g.1)
         ]
 
-    abbrev Stops : Within → Type 0
-    Stops = SlotDone sm
-
-    pub plain-ends : (n : ℕ) → n < top + 2 → plain_done n ≡ true → Stops (plain_state n)
+    pub plain-ends : (n : ℕ) → n < top + 2 → plain_done n ≡ true → SlotDone sm (plain_state n)
     plain-ends n l h =
         elim (leb_tells top n) [
           | inl k ↦
-              let t = less-false n top k.1 in
+              let t = le-ltb n top k.1 in
               let u : (n == top) ≡ true = rw t at h in
               rw (t, u) tt
           | inr k ↦
-              let t = less-true n top k.1 in
+              let t = lt-ltb n top k.1 in
               let u : at_root sm (at_state sm n) ≡ true = rw t at h in
               rw t (root-done sm is (at_state sm n) u)
         ]
 
-    pub plain-ended : (n : ℕ) → n < top + 2 → Stops (plain_state n) → plain_done n ≡ true
+    pub plain-ended : (n : ℕ) → n < top + 2 → SlotDone sm (plain_state n) → plain_done n ≡ true
     plain-ended n l h =
         elim (leb_tells top n) [
           | inl k ↦
-              let t = less-false n top k.1 in
+              let t = le-ltb n top k.1 in
               elim (cases_Bool (n == top)) [
                 | inl u ↦ rw (t, u) refl
-                | inr u ↦ let c : Stops lone = rw (t, u) at h in absurd c
+                | inr u ↦ let c : SlotDone sm lone = rw (t, u) at h in absurd c
               ]
           | inr k ↦
-              let t = less-true n top k.1 in
-              let c : Stops (inside (at_state sm n)) = rw t at h in
+              let t = lt-ltb n top k.1 in
+              let c : SlotDone sm (inside (at_state sm n)) = rw t at h in
               rw t (done-root sm is (at_state sm n) c)
         ]
 

@@ -5,6 +5,7 @@ use Rattle.lf_machine.specs.Paths.{Step}
 use Rattle.lf_machine.specs.Letters.{At, CanStep, IsDone, letters_run}
 use Rattle.lf_machine.specs.Unquoted.{Said, nothing, letters, Within, inside, missing, lone, opened, closed, left, wrap, dashed, SlotEmpty, HoldsSaid}
 use Rattle.lf_machine.specs.SlotMachine.{SlotMachine}
+use Rattle.lf_machine.specs.Parts.{Part}
 
 -- the steps of the quotes
 abbrev pub opening : Step Within
@@ -54,3 +55,7 @@ module _ (sm : SlotMachine) where
   abbrev pub quoted_run : Said → List (Step Within)
   quoted_run nothing = cond sm.dash (dashed ∷ []) (opening ∷ closing ∷ [])
   quoted_run (letters cs) = opening ∷ (map wrap (letters_run sm sm.first cs) ++ closing ∷ [])
+
+  -- the slot as a part
+  abbrev pub framed_part : Part Within
+  framed_part = record { enter = QuotedEnter; can = QuotedCan; done = QuotedDone; empty = ⊥ }

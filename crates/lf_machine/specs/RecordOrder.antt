@@ -1,6 +1,7 @@
--- The order of the records that print one line, and that of the runs over it.
+-- The order of the records that print one line.
 use Rattle.std.specs.Prelude.{◌≡◌, ◌≢◌, ℕ, ◌<◌, ◌⊎◌, List, [], ◌∷◌, false}
 use Rattle.lf_core.specs.declared.marked.Move.{Move}
+use Rattle.lf_core.specs.Runs.{IsRunLess}
 use Rattle.lf_core.specs.declared.values.Value.{Value}
 use Rattle.lf_core.specs.declared.values.Value.TheVariants.{Missing}
 use Rattle.lf_format.specs.Kinds.{plain_text}
@@ -35,14 +36,6 @@ IsRecordLess (Literal text ∷ pieces) rec other = IsRecordLess pieces rec other
 IsRecordLess (Slot slot ∷ pieces) [] other = ⊥
 IsRecordLess (Slot slot ∷ pieces) (v ∷ rec) [] = ⊥
 IsRecordLess (Slot slot ∷ pieces) (v ∷ rec) (u ∷ other) = IsValueLess slot v u ⊎ ((v ≡ u) × IsRecordLess pieces rec other)
-
--- The lesser run has the lesser mark at the first place where they differ, and the lesser point where the marks are equal.
-abbrev pub IsRunLess : List Move → List Move → Type 0
-IsRunLess [] [] = ⊥
-IsRunLess [] (k ∷ other) = Unit {0}
-IsRunLess (m ∷ run) [] = ⊥
-IsRunLess (m ∷ run) (k ∷ other) =
-    (m.mark < k.mark) ⊎ ((m.mark ≡ k.mark) × (m.to < k.to)) ⊎ ((m ≡ k) × IsRunLess run other)
 
 -- Of two records that print one line, the one with the lesser run is less.
 abbrev pub KeepsOrder : List Piece → (List Value → List Move) → Type 0

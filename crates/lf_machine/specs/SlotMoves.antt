@@ -1,21 +1,17 @@
 -- The moves by letters from a point of the domain's machine and what was read of a word.
-use Rattle.std.proofs.Common.{◌≡◌, ℕ, zero, suc, ◌+◌, ◌*◌, ◌/◌, ◌%◌, ◌<◌, ◌≤◌, ◌⊎◌, inl, inr, List, [], ◌∷◌, ◌++◌, length, get_or, Option, None, Some, Bool, true, false, cond, ◌&&◌, refl, sym, ap, ◌∙◌, arith, append_assoc, Contains}
+use Rattle.std.proofs.Common.{◌≡◌, ℕ, zero, suc, ◌+◌, ◌*◌, ◌/◌, ◌%◌, ◌<◌, ◌≤◌, inl, inr, List, [], ◌∷◌, ◌++◌, length, get_or, Option, None, Some, Bool, true, false, cond, ◌&&◌, refl, sym, ap, ◌∙◌, arith, append_assoc, Contains}
 use Rattle.std.proofs.lemmas.Nat.{div-mul-add, mod-mul-add, div_below, row_fits}
 use Rattle.std.proofs.lemmas.List.Elements.{Contains-append_cases, Contains-append_left, Contains-append_right}
 use Rattle.std.proofs.lemmas.Bool.{cases_Bool}
 use Rattle.lf_core.specs.declared.marked.Move.{Move}
 use Rattle.lf_machine.specs.Paths.{Step}
 use Rattle.lf_machine.specs.Letters.{At, inner, letter_step, CanStep, IsDone}
-use Rattle.lf_machine.specs.Lists.{none-there, one-there, there-one, Rises, rises-append}
+use Rattle.lf_machine.specs.Lists.{none-there, one-there, there-one, Rises, rises-append, rises-guard}
 use Rattle.lf_code_table.specs.Table.{index_of, same_list}
 use Rattle.lf_machine.specs.LetterMoves.{letter_moves, one_letter, letter_move, letter-moves, letter-moved}
 use Rattle.lf_code_table.specs.Prefixes.{Has, index-there, IsFront}
 use Rattle.lf_machine.specs.Numbered.{numbered}
 use Rattle.lf_machine.specs.SlotMachine.{SlotMachine}
-
-pub option_cases : {A : Type 0} (o : Option A) → (o ≡ None) ⊎ ((a : A) × (o ≡ Some a))
-option_cases None = inl refl
-option_cases (Some a) = inr (a, refl)
 
 -- the number, or 0 where there is none
 abbrev pub or_zero : Option ℕ → ℕ
@@ -50,10 +46,6 @@ inner-rises width q (Some j) = (omega arith, omega arith)
 rises-option : (o : Option ℕ) (width n : ℕ) → Rises (3 + n) (3 + suc n) (letter_move 3 width n o)
 rises-option None width n = omega arith
 rises-option (Some q) width n = (omega arith, omega arith)
-
-rises-guard : (b : Bool) (low high : ℕ) (ms : List Move) → low ≤ high → Rises low high ms → Rises low high (cond b ms [])
-rises-guard true low high ms l h = h
-rises-guard false low high ms l h = l
 
 letters-rise : (takes : ℕ → Bool) (word : ℕ → List ℕ) (next : ℕ → Option ℕ) (width : ℕ) (text : List ℕ) (n : ℕ) → Rises 3 (3 + n) (letter_moves takes word next 3 width text n)
 unfolding letter_moves

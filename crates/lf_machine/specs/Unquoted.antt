@@ -5,6 +5,7 @@ use Rattle.lf_escape.specs.Codes.{coded}
 use Rattle.lf_machine.specs.Paths.{Step}
 use Rattle.lf_machine.specs.Letters.{At, CanStep, IsDone, AllTaken, letters_run}
 use Rattle.lf_machine.specs.SlotMachine.{SlotMachine}
+use Rattle.lf_machine.specs.Parts.{Part}
 
 -- what a slot says: that its value is missing, or the letters of a plain text
 pub data Said : Type 0 where
@@ -86,3 +87,7 @@ module _ (sm : SlotMachine) where
   abbrev pub said_run : Said → List (Step Within)
   said_run nothing = cond sm.dash (dashed ∷ []) []
   said_run (letters cs) = start_run (letters_run sm sm.first cs)
+
+  -- the slot as a part
+  abbrev pub plain_part : Part Within
+  plain_part = record { enter = SlotEnter; can = SlotCan; done = SlotDone; empty = SlotEmpty }

@@ -1,3 +1,4 @@
+ghost use Rattle.lf_limits.specs.Limits.{most_size};
 ghost use Rattle.std.specs.Prelude.{◌≡◌, ℕ, ◌-◌, ◌<◌, ◌≤◌, ◌^◌, ◌++◌, List, IfOk, OnOk, length, nat_le, take_while};
 ghost use Rattle.lf_core.specs.declared.values.Value.{Value};
 ghost use Rattle.lf_machine.specs.Decoding.{told_letter, told_letters, tells_dash, IsOfValue, IsOfRecord};
@@ -32,7 +33,7 @@ fn decode_parts(
     moves: &[Move],
     into: &mut Record,
 ) -> Result<(), OutOfMemory>
-    requires { length parts.now ≤ 2 ^ 12 }
+    requires { length parts.now ≤ most_size }
     ensures { (rec : List Value) → IsOfRecord parts.now moves.now rec → OnOk result (into.new ≡ into.old ++ rec) }
 {
     match parts.split_first() {

@@ -10,6 +10,3 @@ mod slot_part;
 mod spots;
 
 pub use machine::FormatMachine;
-
-#[cfg(test)]
-mod tests;

@@ -1,4 +1,5 @@
-ghost use Rattle.std.specs.Prelude.{◌≡◌, ◌<◌, ◌≤◌, ◌+◌, ◌++◌, ◌^◌, IfOk, OnOk, drop, length};
+ghost use Rattle.lf_limits.specs.Limits.{most_size};
+ghost use Rattle.std.specs.Prelude.{◌≡◌, ◌<◌, ◌≤◌, ◌+◌, ◌++◌, IfOk, OnOk, drop, length};
 ghost use Rattle.lf_format.specs.Keeps.{EachKept};
 ghost use Rattle.lf_format.specs.Size.{size_of};
 ghost use Rattle.lf_machine.specs.LineBytes.{LiteralsAreBytes};
@@ -39,14 +40,14 @@ impl Model for FormatMachine {
 impl FormatMachine {
     /// The machine of the format. Two builds of equal formats give equal machines.
     pub fn build(alloc: Global, format: &Format) -> Result<FormatMachine, OutOfMemory>
-        requires { size_of format.now.pieces ≤ 2 ^ 12 }
+        requires { size_of format.now.pieces ≤ most_size }
         ensures { IfOk result (λ machine. machine ≡ format.now.pieces) }
     {
         FormatMachine::assemble(alloc, format)
     }
 
     fn assemble(alloc: Global, format: &Format) -> Result<FormatMachine, OutOfMemory>
-        requires { line_points format.now.pieces < 2 ^ 12 }
+        requires { line_points format.now.pieces < most_size }
         ensures { IfOk result (λ machine. machine ≡ format.now.pieces) }
     {
         let mut parts = Vec::new(alloc);
@@ -87,7 +88,7 @@ impl FormatMachine {
     pub(crate) fn parts(&self) -> &[PiecePart]
         ensures parts { result.now ≡ self.now }
         ensures kept { EachKept self.now }
-        ensures few { length result.now ≤ 2 ^ 12 }
+        ensures few { length result.now ≤ most_size }
     {
         self.parts.as_slice()
     }
@@ -117,7 +118,7 @@ impl FormatMachine {
     fn parts_from(&self, number: u32) -> &[PiecePart]
         requires { number < length self.now }
         ensures parts { result.now ≡ drop number self.now }
-        ensures few { length result.now ≤ 2 ^ 12 }
+        ensures few { length result.now ≤ most_size }
     {
         self.parts.as_slice().split_at(number as usize).1
     }
@@ -129,7 +130,7 @@ fn push_parts(
     pieces: &[Piece],
     parts: &mut Vec<PiecePart>,
 ) -> Result<(), OutOfMemory>
-    requires { line_points pieces.now ≤ 2 ^ 12 }
+    requires { line_points pieces.now ≤ most_size }
     ensures ok { OnOk result (parts.new.items ≡ parts.old.items ++ pieces.now) }
     ensures bytes { OnOk result (LiteralsAreBytes pieces.now) }
 {

@@ -1,4 +1,5 @@
-ghost use Rattle.std.specs.Prelude.{◌≡◌, ◌+◌, ◌<◌, ◌≤◌, ◌^◌, ◌++◌, All, IfOk, OnOk, length, map};
+ghost use Rattle.lf_limits.specs.Limits.{most_size};
+ghost use Rattle.std.specs.Prelude.{◌≡◌, ◌+◌, ◌<◌, ◌≤◌, ◌++◌, All, IfOk, OnOk, length, map};
 ghost use Rattle.lf_machine.specs.LineBytes.{IsByte, IsOfBytes};
 ghost use Rattle.lf_machine.specs.LiteralNumbers.{literal_at};
 ghost use Rattle.lf_machine.specs.PieceNumbers.{piece_count, piece_enters, piece_moves, piece_is_done, piece_is_empty};
@@ -37,7 +38,7 @@ impl Model for PiecePart {
 
 impl PiecePart {
     pub fn of(alloc: Global, piece: &Piece) -> Result<PiecePart, OutOfMemory>
-        requires { piece_count piece.now ≤ 2 ^ 12 }
+        requires { piece_count piece.now ≤ most_size }
         ensures ok { IfOk result (λ part. part ≡ piece.now) }
         ensures bytes { OnOk result (IsOfBytes piece.now) }
     {
@@ -132,7 +133,7 @@ fn push_literal(
     place: Place,
     into: &mut Moves,
 ) -> Result<(), OutOfMemory>
-    requires short { length text.now ≤ 2 ^ 12 }
+    requires short { length text.now ≤ most_size }
     requires near { IsNear place }
     ensures ok { OnOk result (into.new.items ≡ into.old.items ++ map (placed place) (literal_at text.now at byte)) }
 {

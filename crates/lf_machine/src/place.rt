@@ -1,4 +1,5 @@
-ghost use Rattle.std.specs.Prelude.{◌≡◌, ◌++◌, ◌≤◌, ◌^◌, [], OnOk, cond, false, map};
+ghost use Rattle.lf_machine.specs.Sums.{most_sum};
+ghost use Rattle.std.specs.Prelude.{◌≡◌, ◌++◌, ◌≤◌, [], OnOk, cond, false, map};
 ghost use Rattle.lf_machine.specs.Places.{IsNear, placed, aimed, one_move};
 
 use lf_core::{Move, OutOfMemory};
@@ -39,7 +40,7 @@ impl Place {
     pub fn put(self, mark: u32, to: u32, into: &mut Moves) -> Result<(), OutOfMemory>
         requires near { IsNear self }
         requires few { mark ≤ 259 }
-        requires low { to ≤ 2 ^ 20 }
+        requires low { to ≤ most_sum }
         ensures ok { OnOk result (into.new.items ≡ into.old.items ++ map (placed self) (one_move mark to)) }
     {
         let step = Move {
@@ -54,7 +55,7 @@ impl Place {
     pub fn put_if(self, test: bool, mark: u32, to: u32, into: &mut Moves) -> Result<(), OutOfMemory>
         requires near { IsNear self }
         requires few { mark ≤ 259 }
-        requires low { to ≤ 2 ^ 20 }
+        requires low { to ≤ most_sum }
         ensures ok { OnOk result (into.new.items ≡ into.old.items ++ map (placed self) (cond test (one_move mark to) [])) }
     {
         if test {
@@ -69,8 +70,8 @@ impl Aim {
     pub fn put(&self, mark: u32, to: u32, into: &mut Moves) -> Result<(), OutOfMemory>
         requires near { IsNear self.now.place }
         requires few { mark ≤ 259 }
-        requires low { to ≤ 2 ^ 20 }
-        requires lone { self.now.lone ≤ 2 ^ 20 }
+        requires low { to ≤ most_sum }
+        requires lone { self.now.lone ≤ most_sum }
         ensures ok { OnOk result (into.new.items ≡ into.old.items ++ map (aimed self.now) (one_move mark to)) }
     {
         let to = if self.apart && mark == 48 {

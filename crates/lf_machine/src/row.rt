@@ -1,3 +1,5 @@
+ghost use Rattle.lf_limits.specs.Limits.{most_size};
+ghost use Rattle.lf_machine.specs.Sums.{most_sum};
 ghost use Rattle.std.specs.Prelude.{◌≡◌, ◌+◌, ◌<◌, ◌≤◌, ◌^◌, ◌++◌, OnOk, length};
 ghost use Rattle.lf_machine.specs.LineMachine.{line_points, line_marks, line_enter, line_moves, line_empty, line_done};
 ghost use Rattle.lf_machine.specs.Spots.{IsOfFirst};
@@ -12,7 +14,7 @@ pub const MARKS: u32 = 259;
 
 /// How many marks the moves of the parts have.
 pub fn marks_of(parts: &[PiecePart]) -> u32
-    requires { length parts.now ≤ 2 ^ 12 }
+    requires { length parts.now ≤ most_size }
     ensures exact { result ≡ line_marks parts.now }
     ensures most { result < 2 ^ 21 }
 {
@@ -21,7 +23,7 @@ pub fn marks_of(parts: &[PiecePart]) -> u32
 
 /// How many points the parts have.
 pub fn points_of(parts: &[PiecePart]) -> u32
-    requires { line_points parts.now < 2 ^ 20 }
+    requires { line_points parts.now < most_sum }
     ensures { result ≡ line_points parts.now }
 {
     match parts.split_first() {
@@ -37,8 +39,8 @@ pub fn push_entry(
     byte: u8,
     into: &mut Moves,
 ) -> Result<(), OutOfMemory>
-    requires few { length parts.now ≤ 2 ^ 12 }
-    requires points { base + line_points parts.now ≤ 2 ^ 20 }
+    requires few { length parts.now ≤ most_size }
+    requires points { base + line_points parts.now ≤ most_sum }
     ensures ok { OnOk result (into.new.items ≡ into.old.items ++ line_enter parts.now base byte) }
 {
     match parts.split_first() {
@@ -65,8 +67,8 @@ pub fn push_at(
     byte: u8,
     into: &mut Moves,
 ) -> Result<(), OutOfMemory>
-    requires few { length parts.now ≤ 2 ^ 12 }
-    requires points { spot.base + line_points parts.now ≤ 2 ^ 20 }
+    requires few { length parts.now ≤ most_size }
+    requires points { spot.base + line_points parts.now ≤ most_sum }
     requires first { IsOfFirst parts.now spot.base point spot.done }
     ensures ok { OnOk result (into.new.items ≡ into.old.items ++ line_moves parts.now spot.base point byte) }
 {

@@ -1,7 +1,9 @@
-ghost use Rattle.std.specs.Prelude.{◌≡◌, ◌+◌, ◌*◌, ◌/◌, ◌%◌, ◌<◌, ◌≤◌, ◌^◌, ◌++◌, ◌∷◌, ◌==◌, ◌&&◌, [], IfOk, OnOk, cond, false, true, get_or, length, map};
+ghost use Rattle.lf_limits.specs.Limits.{most_size};
+ghost use Rattle.lf_machine.specs.Sums.{most_sum};
+ghost use Rattle.std.specs.Prelude.{◌≡◌, ◌+◌, ◌*◌, ◌/◌, ◌%◌, ◌<◌, ◌≤◌, ◌++◌, ◌∷◌, ◌==◌, ◌&&◌, [], IfOk, OnOk, cond, false, true, get_or, length, map};
 ghost use Rattle.std.specs.List.{flat_map};
 ghost use Rattle.std.specs.Option.{ForSome};
-ghost use Rattle.lf_format.specs.Codings.{coding_takes, coding_word};
+ghost use Rattle.lf_escape.specs.Codings.{coding_takes, coding_word};
 ghost use Rattle.lf_format.specs.Kinds.{kind_machine};
 ghost use Rattle.lf_machine.specs.Laid.{slot_steps, slot_top, slot_root};
 ghost use Rattle.lf_machine.specs.PieceNumbers.{slot_count, slot_enters, slot_moves, slot_is_done, slot_is_empty, slot_bare};
@@ -41,7 +43,7 @@ impl Model for SlotPart {
 
 impl SlotPart {
     pub fn of(alloc: Global, slot: &Slot) -> Result<SlotPart, OutOfMemory>
-        requires { slot_count slot.now.quoted slot.now ≤ 2 ^ 12 }
+        requires { slot_count slot.now.quoted slot.now ≤ most_size }
         ensures { IfOk result (λ part. part ≡ slot.now) }
     {
         let table = CodeTable::build(alloc, slot.code)?;
@@ -231,7 +233,7 @@ impl SlotPart {
     ) -> Result<(), OutOfMemory>
         requires among { state < (kind_machine self.now.kind).count }
         requires near { IsNear aim.now.place }
-        requires lone { aim.now.lone ≤ 2 ^ 20 }
+        requires lone { aim.now.lone ≤ most_sum }
         ensures ok { OnOk result (into.new.items ≡ into.old.items ++ map (aimed aim.now) (slot_steps self.now state read.now byte)) }
     {
         self.push_inner(read, byte, state, aim, into)?;
@@ -254,7 +256,7 @@ impl SlotPart {
     ) -> Result<(), OutOfMemory>
         requires among { state < (kind_machine self.now.kind).count }
         requires near { IsNear aim.now.place }
-        requires lone { aim.now.lone ≤ 2 ^ 20 }
+        requires lone { aim.now.lone ≤ most_sum }
         ensures ok { OnOk result (into.new.items ≡ into.old.items ++ map (aimed aim.now) (inner_move (length (table_of self.now.code)) state (index_of (table_of self.now.code) (read.now ++ byte ∷ [])))) }
     {
         match self.table.number_of(read, byte) {
@@ -275,7 +277,7 @@ impl SlotPart {
     ) -> Result<(), OutOfMemory>
         requires among { state < (kind_machine self.now.kind).count }
         requires near { IsNear aim.now.place }
-        requires lone { aim.now.lone ≤ 2 ^ 20 }
+        requires lone { aim.now.lone ≤ most_sum }
         ensures ok { OnOk result (into.new.items ≡ into.old.items ++ map (aimed aim.now) (flat_map (one_letter (coding_takes self.now.code) (coding_word self.now.code) ((kind_machine self.now.kind).next state) 3 (length (table_of self.now.code)) (read.now ++ byte ∷ [])) letters.now)) }
     {
         match letters.split_first() {
@@ -299,7 +301,7 @@ impl SlotPart {
     ) -> Result<(), OutOfMemory>
         requires among { state < (kind_machine self.now.kind).count }
         requires near { IsNear aim.now.place }
-        requires lone { aim.now.lone ≤ 2 ^ 20 }
+        requires lone { aim.now.lone ≤ most_sum }
         ensures ok { OnOk result (into.new.items ≡ into.old.items ++ map (aimed aim.now) (one_letter (coding_takes self.now.code) (coding_word self.now.code) ((kind_machine self.now.kind).next state) 3 (length (table_of self.now.code)) (read.now ++ byte ∷ []) letter)) }
     {
         if !self.slot.code.takes(letter) {
@@ -321,7 +323,7 @@ impl SlotPart {
     ) -> Result<(), OutOfMemory>
         requires among { state < (kind_machine self.now.kind).count }
         requires near { IsNear aim.now.place }
-        requires lone { aim.now.lone ≤ 2 ^ 20 }
+        requires lone { aim.now.lone ≤ most_sum }
         ensures ok { OnOk result (into.new.items ≡ into.old.items ++ map (aimed aim.now) (flat_map (end_move ((kind_machine self.now.kind).next state) 3 (length (table_of self.now.code))) letters.now)) }
     {
         match letters.split_first() {
@@ -343,7 +345,7 @@ impl SlotPart {
     ) -> Result<(), OutOfMemory>
         requires among { state < (kind_machine self.now.kind).count }
         requires near { IsNear aim.now.place }
-        requires lone { aim.now.lone ≤ 2 ^ 20 }
+        requires lone { aim.now.lone ≤ most_sum }
         ensures ok { OnOk result (into.new.items ≡ into.old.items ++ map (aimed aim.now) (end_move ((kind_machine self.now.kind).next state) 3 (length (table_of self.now.code)) letter)) }
     {
         match self.step(state, letter) {
@@ -374,7 +376,7 @@ impl SlotPart {
         requires among { state < (kind_machine self.now.kind).count }
         requires within { number < length (table_of self.now.code) }
         ensures exact { result ≡ state * length (table_of self.now.code) + number }
-        ensures low { result < 2 ^ 12 }
+        ensures low { result < most_size }
     {
         state * self.table.width() + number
     }
@@ -383,7 +385,7 @@ impl SlotPart {
     fn root_of(&self, state: u32) -> u32
         requires { state < (kind_machine self.now.kind).count }
         ensures exact { result ≡ state * length (table_of self.now.code) }
-        ensures low { result < 2 ^ 12 }
+        ensures low { result < most_size }
     {
         state * self.table.width()
     }

@@ -1,4 +1,5 @@
-ghost use Rattle.std.specs.Prelude.{◌≡◌, ◌+◌, ◌<◌, ◌≤◌, ◌^◌, ◌++◌, OnOk, length};
+ghost use Rattle.lf_machine.specs.Sums.{most_sum};
+ghost use Rattle.std.specs.Prelude.{◌≡◌, ◌+◌, ◌<◌, ◌≤◌, ◌++◌, OnOk, length};
 ghost use Rattle.lf_machine.specs.LineMachine.{line_points};
 ghost use Rattle.lf_machine.specs.PieceNumbers.{piece_count};
 ghost use Rattle.lf_machine.specs.Spots.{piece_spots, spots_from};
@@ -21,8 +22,8 @@ pub fn push_spots(
     base: u32,
     spots: &mut Vec<Spot>,
 ) -> Result<(), OutOfMemory>
-    requires few { number + length parts.now ≤ 2 ^ 20 }
-    requires points { base + line_points parts.now ≤ 2 ^ 20 }
+    requires few { number + length parts.now ≤ most_sum }
+    requires points { base + line_points parts.now ≤ most_sum }
     ensures ok { OnOk result (spots.new.items ≡ spots.old.items ++ spots_from number base parts.now) }
 {
     match parts.split_first() {

@@ -3,9 +3,11 @@ use Rattle.std.specs.Prelude.{replicate}
 use Rattle.std.proofs.lemmas.List.{drop-set, drop_all, take_more, length-set}
 use Rattle.std.proofs.Math.Nat.{zero-div}
 use Rattle.std.proofs.lemmas.Nat.{mul-le}
+use Rattle.std.proofs.lemmas.Bool.{cases_Bool}
 use Rattle.lf_number.specs.Numbers.{IsRadix, digit_letter, digit_of, digits, width, last_digits}
 use Rattle.lf_number.specs.Machines.{front, value_after}
-use Rattle.lf_number.specs.Digits.{below, bool_cases, digits-one, digits-more, front-quotient, last-padded, value_after-append}
+use Rattle.lf_number.specs.Digits.{digits-one, digits-more, front-quotient, last-padded, value_after-append}
+use Rattle.lf_core.specs.Choices.{below}
 
 set-put : (at letter : ℕ) (buffer : List ℕ) → 1 ≤ at → at ≤ length buffer → drop (at - 1) (set buffer (at - 1) letter) ≡ letter ∷ drop at buffer
 set-put at letter buffer one few =
@@ -69,7 +71,7 @@ capped-push r v d top one =
 
 pub capped-letter : (r : ℕ) → IsRadix r → (v c top : ℕ) → min (value_after r (min v top) (c ∷ [])) top ≡ min (value_after r v (c ∷ [])) top
 capped-letter r is v c top =
-    elim (bool_cases (ltb (digit_of c) r)) [
+    elim (cases_Bool (ltb (digit_of c) r)) [
       | inl t ↦ rw t (capped-push r v (digit_of c) top (omega (arith, is.least)))
       | inr t ↦ rw t (omega arith)
     ]

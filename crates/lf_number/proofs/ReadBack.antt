@@ -11,8 +11,8 @@ use Rattle.lf_core.specs.declared.values.Value.{Value}
 use Rattle.lf_core.specs.declared.values.Value.TheVariants.{Num}
 use Rattle.lf_number.specs.Numbers.{decimal, number_text, is_negative, magnitude, num_text, IsBetween, HoldsNumber}
 use Rattle.lf_number.specs.Machines.{value_after, has_minus}
-use Rattle.lf_number.specs.NumberLaws.{unwrap}
 use Rattle.lf_number.specs.Digits.{ten, value-digits, value-other, digits-head, minus-no_digit}
+use Rattle.lf_core.specs.Choices.{unwrap}
 
 -- what `signed` tells of a sign and a magnitude
 abbrev pub IsSigned : Bool → ℕ → Option ℤ → Type 0

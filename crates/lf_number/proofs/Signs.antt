@@ -5,10 +5,11 @@ use Rattle.std.specs.Int.{w64}
 use Rattle.std.proofs.lemmas.Int.{to_z-of_z}
 use lib.Signed.{le_z}
 use Rattle.std.proofs.lemmas.Bool.Decides.{nat_tests}
+use Rattle.std.proofs.lemmas.Bool.{cases_Bool}
 use Rattle.lf_number.specs.Numbers.{digit_of, magnitude, half_points, number_size}
 use Rattle.lf_number.specs.Machines.{sign_base, number_digit, number_next, number_done, number_ends}
 use Rattle.lf_number.proofs.ReadBack.{magnitude-fits}
-use Rattle.lf_number.specs.Digits.{bool_cases, ten, width-u64}
+use Rattle.lf_number.specs.Digits.{ten, width-u64}
 
 half-most : (lo hi : ℤ) → FitsSigned w64 lo → FitsSigned w64 hi → half_points lo hi ≤ 182
 half-most lo hi f g =
@@ -27,7 +28,7 @@ by-sign : {A : Type 0} (lo hi : ℤ) (point : ℕ) (f : ℕ → Bool → ℕ →
 by-sign lo hi point f =
     let t : ltb 0 (half_points lo hi) ≡ true = grind (arith, nat_tests) in
     let e : point - 0 ≡ point = omega arith in
-    elim (bool_cases (ltb point (half_points lo hi))) [
+    elim (cases_Bool (ltb point (half_points lo hi))) [
       | inl b ↦ rw (b, e)
       | inr b ↦ rw (b, t)
     ]

@@ -4,12 +4,13 @@ use Rattle.std.specs.Prelude.{ℤ, pos, negsuc, ◌≤ℤ◌}
 use Rattle.std.proofs.lemmas.Int.{ints}
 use Rattle.std.proofs.lemmas.Bool.Decides.{nat_tests}
 use Rattle.lf_core.specs.Domain.{accepts, IsDomain}
-use Rattle.lf_core.proofs.Accepts.{accepts-image, accepts-step, accepts-stop, map_option, IsImage}
+use Rattle.lf_core.specs.AcceptsLaws.{accepts-image, accepts-step, accepts-stop, map_option, IsImage}
 use Rattle.lf_number.specs.Digits.{ten, value-digits, value-other, minus-no_digit, digits-head}
 use Rattle.lf_number.specs.ReadingLaws.{num_laws}
 use Rattle.lf_number.specs.NumberLaws.{number_accepts, size-least, number-stays, below-zero, value-apart, zero-text}
 use Rattle.lf_number.specs.Numbers.{decimal, is_negative, number_text, dash_text, number_size, dash_size, IsBetween, HoldsNumber, num_text}
 use Rattle.lf_number.specs.Machines.{value_after, exchanged, number_next, number_ends, dash_next, dash_machine}
+use Rattle.lf_core.specs.Choices.{option_cases}
 
 exchanged-twice : (c : ℕ) → exchanged (exchanged c) ≡ c
 exchanged-twice c = grind (arith, nat_tests)
@@ -59,10 +60,6 @@ empty-apart c cs e = cc
 letter-byte : (b : Bool) (c : ℕ) → cond b (exchanged c) c < 256 → c < 256
 letter-byte true c h = exchanged-byte c h
 letter-byte false c h = h
-
-option_cases : (o : Option ℕ) → (o ≡ None) ⊎ ((a : ℕ) × (o ≡ Some a))
-option_cases None = inl refl
-option_cases (Some a) = inr (a, refl)
 
 map-self : (o : Option ℕ) → o ≡ map_option (λ (at : ℕ). at) o
 map-self None = refl

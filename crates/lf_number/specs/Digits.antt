@@ -2,25 +2,11 @@ use Rattle.std.proofs.Common.{◌≡◌, ℕ, zero, suc, ◌+◌, ◌-◌, ◌*�
 use Rattle.std.specs.Prelude.{replicate}
 use Rattle.std.proofs.Math.Nat.{pow-suc, pow-zero, one-mul, pow-le-pow_left, zero-div, zero-mod, div-eq_of_lt, mod-eq_of_lt}
 use Rattle.std.proofs.lemmas.Nat.{div-add-mod', div-mul-add, mod-mul-add, le-div, mod_below, mul-le, div_below}
-use Rattle.std.proofs.lemmas.Bool.Decides.{nat_tests, leb_tells}
+use Rattle.std.proofs.lemmas.Bool.Decides.{nat_tests}
+use Rattle.std.proofs.lemmas.Bool.{le-ltb, lt-ltb}
 use Rattle.lf_number.specs.Numbers.{IsRadix, digit_letter, digit_of, digits_within, digits, width, last_digits}
 use Rattle.lf_number.specs.Machines.{front, value_after}
-
-pub below : (a b : ℕ) → ((ltb a b ≡ true) × (a < b)) ⊎ ((ltb a b ≡ false) × (b ≤ a))
-below a b = elim (leb_tells (suc a) b) [ inl t ↦ inl (t.0, omega (arith, t.1)) | inr t ↦ inr (t.0, omega (arith, t.1)) ]
-
-pub to_less : (a b : ℕ) → a < b → ltb a b ≡ true
-to_less a b h = grind (arith, nat_tests)
-
-pub not_less : (a b : ℕ) → b ≤ a → ltb a b ≡ false
-not_less a b h = grind (arith, nat_tests)
-
-pub less_from : (a b : ℕ) → ltb a b ≡ true → a < b
-less_from a b h = grind (arith, nat_tests)
-
-pub bool_cases : (b : Bool) → (b ≡ true) ⊎ (b ≡ false)
-bool_cases true = inl refl
-bool_cases false = inr refl
+use Rattle.lf_core.specs.Choices.{below}
 
 -- letters of digits
 
@@ -68,7 +54,7 @@ letter-is r is c h = letter-digit_of c (omega (arith, is.most))
 
 -- a digit's letter passes the test for a digit
 pub digit-taken : {A : Type 0} (r : ℕ) → IsRadix r → (d : ℕ) (f : ℕ → A) (x : A) → d < r → cond (ltb (digit_of (digit_letter d)) r) (f (digit_of (digit_letter d))) x ≡ f d
-digit-taken r is d f x h = rw (digit_of-letter d (omega (arith, is.most)), to_less d r h)
+digit-taken r is d f x h = rw (digit_of-letter d (omega (arith, is.most)), lt-ltb d r h)
 
 replicate-more : (c j : ℕ) → replicate j c ++ c ∷ [] ≡ replicate (suc j) c
 replicate-more c zero = refl
@@ -239,13 +225,13 @@ module _ (r : ℕ) (is : IsRadix r) where
   -- other letters are passed over
   pub value-other : (c : ℕ) (cs : List ℕ) (acc : ℕ) → digit_of c ≡ 16 → value_after r acc (c ∷ cs) ≡ value_after r acc cs
   value-other c cs acc e =
-      let t : ltb (digit_of c) r ≡ false = not_less (digit_of c) r (omega (arith, is.most)) in
+      let t : ltb (digit_of c) r ≡ false = le-ltb (digit_of c) r (omega (arith, is.most)) in
       ap (λ (b : Bool). value_after r (cond b (acc * r + digit_of c) acc) cs) t
 
   pub value-zeros : (k : ℕ) → value_after r 0 (replicate k 48) ≡ 0
   value-zeros zero = refl
   value-zeros (suc k) =
-      let t : ltb (digit_of 48) r ≡ true = rw zero-is_digit (to_less 0 r (omega (arith, is.least))) in
+      let t : ltb (digit_of 48) r ≡ true = rw zero-is_digit (lt-ltb 0 r (omega (arith, is.least))) in
       ap (λ (b : Bool). value_after r (cond b (0 * r + digit_of 48) 0) (replicate k 48)) t
       ∙ ap (λ (d : ℕ). value_after r (0 * r + d) (replicate k 48)) zero-is_digit
       ∙ ap (λ (a : ℕ). value_after r a (replicate k 48)) (nothing r)

@@ -1,8 +1,9 @@
 -- Digits whose number is not known before they end, as points of a machine.
 use Rattle.std.proofs.Common.{◌≡◌, ℕ, suc, ◌+◌, ◌-◌, ◌*◌, ◌/◌, ◌%◌, ◌<◌, ◌≤◌, None, Some, Bool, true, false, cond, ltb, ◌==◌, arith}
 use Rattle.std.proofs.lemmas.Bool.Decides.{nat_tests}
-use Rattle.lf_core.proofs.Accepts.{guarded_some}
-use Rattle.lf_number.specs.Digits.{less_from, width-one, width-push, width-least}
+use Rattle.std.proofs.lemmas.Bool.{ltb-true}
+use Rattle.std.proofs.lemmas.Option.{cond_some}
+use Rattle.lf_number.specs.Digits.{width-one, width-push, width-least}
 use Rattle.lf_number.specs.Sides.{side-first, side-next, side-most, side-whole, past-digits, next_side-most, push_side-most, three-most, three-push}
 use Rattle.lf_number.specs.Numbers.{IsRadix, width}
 use Rattle.lf_number.specs.Machines.{front, three, side, push_side, next_side, whole_side, place, free_first, free_more, free_next, counted_place, counted_more, counted_next}
@@ -78,7 +79,7 @@ module _ (r a b : ℕ) where
 
   pub free_next-least : (most at digit after : ℕ) → free_next r most a b at digit ≡ Some after → 2 ≤ after
   free_next-least most at digit after e =
-      let f = guarded_some (ltb ((at + 7) / 9) most) (free_more r a b ((at + 7) / 9) ((at + 7) % 9 / 3) ((at + 7) % 3) digit) after e in
+      let f = cond_some (ltb ((at + 7) / 9) most) (free_more r a b ((at + 7) / 9) ((at + 7) % 9 / 3) ((at + 7) % 3) digit) after e in
       rw (← f.1) (omega arith)
 
   pub free_next-most : (most at digit after : ℕ) → free_next r most a b at digit ≡ Some after → after < 9 * most + 2
@@ -86,8 +87,8 @@ module _ (r a b : ℕ) where
       let k = (at + 7) / 9 in
       let s = (at + 7) % 9 / 3 in
       let t = (at + 7) % 3 in
-      let f = guarded_some (ltb k most) (free_more r a b k s t digit) after e in
-      let l : k + 1 ≤ most = omega (arith, less_from k most f.0) in
+      let f = cond_some (ltb k most) (free_more r a b k s t digit) after e in
+      let l : k + 1 ≤ most = omega (arith, ltb-true k most f.0) in
       let p = place-most (k + 1) (next_side r a k s digit) (next_side r b k t digit) (omega arith) (next_side-most r a k s digit (omega arith)) (next_side-most r b k t digit (omega arith)) most l in
       rw (← f.1) p
 

@@ -2,13 +2,14 @@
 use Rattle.std.proofs.Common.{◌≡◌, ℕ, suc, ◌+◌, ◌-◌, ◌*◌, ◌<◌, ◌≤◌, inl, inr, Option, None, Some, Bool, true, false, cond, ltb, ◌==◌, refl, ◌∙◌, arith}
 use Rattle.std.specs.Prelude.{ℤ}
 use Rattle.std.proofs.lemmas.Bool.Decides.{nat_tests}
-use Rattle.lf_core.proofs.Accepts.{map_option}
-use Rattle.lf_number.specs.Digits.{below, to_less, bool_cases}
+use Rattle.std.proofs.lemmas.Bool.{cases_Bool, lt-ltb}
+use Rattle.lf_core.specs.AcceptsLaws.{map_option}
 use Rattle.lf_number.specs.Sides.{three-most}
 use Rattle.lf_number.specs.Free.{free_place, free-first, free-next, free-least, free-most, counted_at, counted-rest, counted-low, counted-high, counted-next, counted-done, free_first-most, free_next-most, counted_next-most}
-use Rattle.lf_number.specs.NumberLaws.{place-apart, unwrap, none_some}
+use Rattle.lf_number.specs.NumberLaws.{place-apart, none_some}
 use Rattle.lf_number.specs.Numbers.{IsRadix, width}
 use Rattle.lf_number.specs.Machines.{front, three, in_range, free_first, counted_next, mixed_digit, counted_done}
+use Rattle.lf_core.specs.Choices.{below, unwrap}
 
 -- what was read so far: nothing, a lone zero, the free digits of a number, and so many counted digits
 pub data Reading : Type 0 where
@@ -40,7 +41,7 @@ module _ (r : ℕ) (is : IsRadix r) (most a b lo hi top : ℕ) where
   IsFree (counted done q) = Unit {0}
 
   pub free-below : (p : ℕ) → width r p ≤ most → ltb (free_place r is a b p) base ≡ true
-  free-below p h = to_less (free_place r is a b p) base (free-most r is a b p most h)
+  free-below p h = lt-ltb (free_place r is a b p) base (free-most r is a b p most h)
 
   not-below : (x : ℕ) → ltb (base + x) base ≡ false
   not-below x = grind (arith, nat_tests)
@@ -50,7 +51,7 @@ module _ (r : ℕ) (is : IsRadix r) (most a b lo hi top : ℕ) where
 
   begun-goes : (first : Reading) (digit : ℕ) → digit < r → mixed_digit r most a b lo hi (point first) 0 digit ≡ map_option point (read_digit first begun digit)
   begun-goes first digit h =
-      elim (bool_cases (digit == 0)) [
+      elim (cases_Bool (digit == 0)) [
         | inl z ↦ rw z
         | inr z ↦ rw (z, free-first r is a b digit h)
       ]
@@ -59,7 +60,7 @@ module _ (r : ℕ) (is : IsRadix r) (most a b lo hi top : ℕ) where
   whole-goes first p digit f h =
       let z = place-apart (free_place r is a b p) (free-least r is a b p) in
       rw (z.0, z.1, free-below p f.1, free-next r is a b p digit most f.0 h)
-      (elim (bool_cases (ltb (width r p) most)) [
+      (elim (cases_Bool (ltb (width r p) most)) [
         | inl t ↦ rw t
         | inr t ↦ rw t
       ])
@@ -90,16 +91,16 @@ module _ (r : ℕ) (is : IsRadix r) (most a b lo hi top : ℕ) where
 
   pub mixed-most : (first at digit after last : ℕ) → 1 ≤ most → first < base + 9 * (last + 1) → at < base + 9 * (last + 1) → mixed_digit r most a b lo hi first at digit ≡ Some after → after < base + 9 * (last + 1)
   mixed-most first at digit after last one f h e =
-      elim (bool_cases (at == 0)) [
+      elim (cases_Bool (at == 0)) [
         | inl z ↦
-            elim (bool_cases (digit == 0)) [
+            elim (cases_Bool (digit == 0)) [
               | inl y ↦ rw (← (unwrap first after (rw (z, y) at e))) f
               | inr y ↦
                   let m = free_first-most r a b digit most one in
                   rw (← (unwrap (free_first r a b digit) after (rw (z, y) at e))) (omega (arith, m))
             ]
         | inr z ↦
-            elim (bool_cases (at == 1)) [
+            elim (cases_Bool (at == 1)) [
               | inl o ↦ absurd (none_some after (rw (z, o) at e))
               | inr o ↦
                   elim (below at base) [

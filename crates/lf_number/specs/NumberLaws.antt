@@ -3,14 +3,17 @@ use Rattle.std.specs.Prelude.{ℤ, pos, negsuc, ◌≤ℤ◌}
 use Rattle.std.proofs.lemmas.Int.{ints}
 use Rattle.std.proofs.lemmas.Nat.{div-add-mod'}
 use Rattle.std.proofs.lemmas.Bool.Decides.{nat_tests, leb_tells}
+use Rattle.std.proofs.lemmas.Bool.{cases_Bool, lt-ltb, ltb-true, and_parts}
+use Rattle.std.proofs.lemmas.Option.{cond_some}
 use Rattle.lf_core.specs.Domain.{IsDomain}
-use Rattle.lf_core.proofs.Accepts.{IsImage, map_option, guarded, guarded_some}
-use Rattle.lf_number.specs.Digits.{below, to_less, less_from, bool_cases, ten, letter-is, digit_of-letter, letter-digit_of, digit-byte, minus-no_digit, zero-is_digit, letter-zero, digits-one, digits-push, width-one, width-more, width-push, width-least, width-rises, value-digits, digits-head}
+use Rattle.lf_core.specs.AcceptsLaws.{IsImage, map_option, guarded}
+use Rattle.lf_number.specs.Digits.{ten, letter-is, digit_of-letter, letter-digit_of, digit-byte, minus-no_digit, zero-is_digit, letter-zero, digits-one, digits-push, width-one, width-more, width-push, width-least, width-rises, value-digits, digits-head}
 use Rattle.lf_number.specs.Free.{free_place, free-first, free-next, free-least, free-most, free-whole_low, free-whole_high, free_first-least, free_first-most, free_next-least, free_next-most}
-use Rattle.lf_number.specs.Range.{and-true, range-pos, pos-range, range-neg, neg-range}
+use Rattle.lf_number.specs.Range.{range-pos, pos-range, range-neg, neg-range}
 use Rattle.lf_number.specs.ReadingLaws.{IsReading, AcceptsNumbers, reading_accepts, num_laws}
 use Rattle.lf_number.specs.Numbers.{digit_letter, digit_of, decimal, width, magnitude, is_negative, number_text, most_digits, half_points, number_size, IsBetween, HoldsNumber, num_text}
 use Rattle.lf_number.specs.Machines.{value_after, three, in_range, shifted, free_first, free_next, number_first, number_digit, number_next, number_done, number_ends, number_machine}
+use Rattle.lf_core.specs.Choices.{below, unwrap}
 
 -- what was read so far of a number with a sign
 data Reading : Type 0 where
@@ -65,9 +68,6 @@ not_zero n h = grind (arith, nat_tests)
 
 pub is_zero : (n : ℕ) → (n == 0) ≡ true → n ≡ 0
 is_zero n h = grind (arith, nat_tests)
-
-pub unwrap : {A : Type 0} (a b : A) → Some a ≡ Some b → a ≡ b
-unwrap a b e = cc
 
 module _ (lo hi : ℤ) where
   abbrev read : Reading → ℕ → Option Reading
@@ -134,15 +134,15 @@ module _ (lo hi : ℤ) where
 
   sign-step : (negative : Bool) (c : ℕ) (t : Reading) → cond ((c == 45 && not negative) && is_negative lo) (Some (begun true)) None ≡ Some t → Step (begun negative) c t
   sign-step true c t e =
-      let g = guarded_some ((c == 45 && false) && is_negative lo) (begun true) t e in
-      let f = and-true (c == 45 && false) (is_negative lo) g.0 in
-      let k = and-true (c == 45) false f.0 in
+      let g = cond_some ((c == 45 && false) && is_negative lo) (begun true) t e in
+      let f = and_parts (c == 45 && false) (is_negative lo) g.0 in
+      let k = and_parts (c == 45) false f.0 in
       let z = k.1 in
       cc
   sign-step false c t e =
-      let g = guarded_some ((c == 45 && true) && is_negative lo) (begun true) t e in
-      let f = and-true (c == 45 && true) (is_negative lo) g.0 in
-      let k = and-true (c == 45) true f.0 in
+      let g = cond_some ((c == 45 && true) && is_negative lo) (begun true) t e in
+      let f = and_parts (c == 45 && true) (is_negative lo) g.0 in
+      let k = and_parts (c == 45) true f.0 in
       let y : 45 ≡ c = grind (arith, nat_tests, k.0) in
       subst (λ (x : Reading). Step (begun false) c x) g.1 (f.1, ap (λ (x : ℕ). x ∷ []) y)
 
@@ -160,11 +160,11 @@ module _ (lo hi : ℤ) where
 
   step : (s : Reading) (c : ℕ) (t : Reading) → CanRead s → read s c ≡ Some t → Step s c t
   step (begun negative) c t h e =
-      elim (bool_cases (ltb (digit_of c) 10)) [
+      elim (cases_Bool (ltb (digit_of c) 10)) [
         | inl d ↦
             let f = rw d at e in
-            let l = less_from (digit_of c) 10 d in
-            elim (bool_cases (digit_of c == 0)) [
+            let l = ltb-true (digit_of c) 10 d in
+            elim (cases_Bool (digit_of c == 0)) [
               | inl z ↦
                   let y : 48 ≡ c = zero-letter c z in
                   zero-step negative c t y (rw z at f)
@@ -177,22 +177,22 @@ module _ (lo hi : ℤ) where
   step lone_zero c t h e = cc
   step (whole negative p) c t h e =
       let f = guarded (ltb (digit_of c) 10) (cond (ltb (width 10 p) (most_digits lo hi)) (Some (whole negative (p * 10 + digit_of c))) None) t e in
-      let g = guarded_some (ltb (width 10 p) (most_digits lo hi)) (whole negative (p * 10 + digit_of c)) t f.1 in
-      whole-step negative p c t h (less_from (digit_of c) 10 f.0) (omega (arith, less_from (width 10 p) (most_digits lo hi) g.0)) g.1
+      let g = cond_some (ltb (width 10 p) (most_digits lo hi)) (whole negative (p * 10 + digit_of c)) t f.1 in
+      whole-step negative p c t h (ltb-true (digit_of c) 10 f.0) (omega (arith, ltb-true (width 10 p) (most_digits lo hi) g.0)) g.1
 
   first-digit : (negative : Bool) (n : ℕ) → 0 < n → n < 10 → read (begun negative) (digit_letter n) ≡ Some (whole negative n)
   first-digit negative n h g =
       let e : digit_of (digit_letter n) ≡ n = digit_of-letter n (omega arith) in
-      let d : ltb n 10 ≡ true = to_less n 10 g in
+      let d : ltb n 10 ≡ true = lt-ltb n 10 g in
       let z : (n == 0) ≡ false = grind (arith, nat_tests) in
       rw (e, d, z)
 
   more-digit : (negative : Bool) (p : ℕ) → 10 ≤ p → width 10 p ≤ most_digits lo hi → read (whole negative (p / 10)) (digit_letter (p % 10)) ≡ Some (whole negative p)
   more-digit negative p h g =
       let e : digit_of (digit_letter (p % 10)) ≡ p % 10 = digit_of-letter (p % 10) (omega arith) in
-      let d : ltb (p % 10) 10 ≡ true = to_less (p % 10) 10 (omega arith) in
+      let d : ltb (p % 10) 10 ≡ true = lt-ltb (p % 10) 10 (omega arith) in
       let w : width 10 (p / 10) < most_digits lo hi = omega (arith, width-more 10 ten p h) in
-      let t : ltb (width 10 (p / 10)) (most_digits lo hi) ≡ true = to_less (width 10 (p / 10)) (most_digits lo hi) w in
+      let t : ltb (width 10 (p / 10)) (most_digits lo hi) ≡ true = lt-ltb (width 10 (p / 10)) (most_digits lo hi) w in
       rw (e, d, t) (ap (λ (m : ℕ). Some (whole negative m)) (div-add-mod' p 10))
 
   before : (t : Reading) → CanRead t → (t ≡ begun false) ⊎ ((s : Reading) × (c : ℕ) × CanRead s × (read s c ≡ Some t))
@@ -219,7 +219,7 @@ module _ (lo hi : ℤ) where
   next-digit : (negative : Bool) (at letter : ℕ) → at < half_points lo hi → ltb (digit_of letter) 10 ≡ true → number_next lo hi (base negative + at) letter ≡ number_digit lo hi (base negative) negative at (digit_of letter)
   next-digit false at letter h d =
       let e : 0 + at ≡ at = omega arith in
-      let t : ltb at (half_points lo hi) ≡ true = to_less at (half_points lo hi) h in
+      let t : ltb at (half_points lo hi) ≡ true = lt-ltb at (half_points lo hi) h in
       rw (d, e, t)
   next-digit true at letter h d =
       let t : ltb (half_points lo hi + at) (half_points lo hi) ≡ false = grind (arith, nat_tests) in
@@ -256,7 +256,7 @@ module _ (lo hi : ℤ) where
   more-image negative p digit h g =
       let z = place-apart (rest (whole negative p)) (free-least 10 ten (magnitude lo) (magnitude hi) p) in
       rw (z.0, z.1, free-next 10 ten (magnitude lo) (magnitude hi) p digit (most_digits lo hi) h g)
-      (elim (bool_cases (ltb (width 10 p) (most_digits lo hi))) [
+      (elim (cases_Bool (ltb (width 10 p) (most_digits lo hi))) [
         | inl t ↦ rw t
         | inr t ↦ rw t
       ])
@@ -273,7 +273,7 @@ module _ (lo hi : ℤ) where
 
   goes-sign : (negative : Bool) (letter : ℕ) → ltb (digit_of letter) 10 ≡ false → number_next lo hi (point (begun negative)) letter ≡ map_option point (read (begun negative) letter)
   goes-sign false letter d =
-      elim (bool_cases ((letter == 45 && true) && is_negative lo)) [
+      elim (cases_Bool ((letter == 45 && true) && is_negative lo)) [
         | inl e ↦ rw (d, e) (ap Some (sym (add-zero (half_points lo hi))))
         | inr e ↦ rw (d, e)
       ]
@@ -284,19 +284,19 @@ module _ (lo hi : ℤ) where
 
   goes : (s : Reading) (letter : ℕ) → CanRead s → number_next lo hi (point s) letter ≡ map_option point (read s letter)
   goes (begun negative) letter h =
-      elim (bool_cases (ltb (digit_of letter) 10)) [
-        | inl d ↦ next-digit negative 0 letter (omega arith) d ∙ first-image negative (digit_of letter) (less_from (digit_of letter) 10 d) ∙ ap (map_option point) (sym (begun-digit negative letter d))
+      elim (cases_Bool (ltb (digit_of letter) 10)) [
+        | inl d ↦ next-digit negative 0 letter (omega arith) d ∙ first-image negative (digit_of letter) (ltb-true (digit_of letter) 10 d) ∙ ap (map_option point) (sym (begun-digit negative letter d))
         | inr d ↦ goes-sign negative letter d
       ]
   goes lone_zero letter h =
-      elim (bool_cases (ltb (digit_of letter) 10)) [
+      elim (cases_Bool (ltb (digit_of letter) 10)) [
         | inl d ↦ next-digit false 1 letter (rest-small lone_zero h) d
         | inr d ↦ next-other 1 letter d ∙ no_sign letter 1 (is_negative lo) (Some (half_points lo hi)) (omega arith)
       ]
   goes (whole negative p) letter h =
-      elim (bool_cases (ltb (digit_of letter) 10)) [
+      elim (cases_Bool (ltb (digit_of letter) 10)) [
         | inl d ↦ next-digit negative (rest (whole negative p)) letter (rest-small (whole negative p) h) d
-            ∙ more-image negative p (digit_of letter) h.1 (less_from (digit_of letter) 10 d)
+            ∙ more-image negative p (digit_of letter) h.1 (ltb-true (digit_of letter) 10 d)
             ∙ ap (map_option point) (sym (whole-digit negative p letter d))
         | inr d ↦
             let o : read (whole negative p) letter ≡ None = rw d in
@@ -307,7 +307,7 @@ module _ (lo hi : ℤ) where
   ends-at : (negative : Bool) (at : ℕ) → at < half_points lo hi → number_ends lo hi (base negative + at) ≡ number_done lo hi negative at
   ends-at false at h =
       let e : 0 + at ≡ at = omega arith in
-      let t : ltb at (half_points lo hi) ≡ true = to_less at (half_points lo hi) h in
+      let t : ltb at (half_points lo hi) ≡ true = lt-ltb at (half_points lo hi) h in
       rw (e, t)
   ends-at true at h =
       let t : ltb (half_points lo hi + at) (half_points lo hi) ≡ false = grind (arith, nat_tests) in
@@ -400,21 +400,21 @@ shifted-some base (Some at) after e = (at, refl, cc)
 module _ (lo hi : ℤ) where
   pub size-least : (after : ℕ) → after < half_points lo hi → after < number_size lo hi
   size-least after h =
-      elim (bool_cases (is_negative lo)) [
+      elim (cases_Bool (is_negative lo)) [
         | inl n ↦ rw n (omega arith)
         | inr n ↦ rw n h
       ]
 
   size-twice : (point after : ℕ) → point < number_size lo hi → half_points lo hi ≤ point → after < half_points lo hi + half_points lo hi → after < number_size lo hi
   size-twice point after h g a =
-      elim (bool_cases (is_negative lo)) [
+      elim (cases_Bool (is_negative lo)) [
         | inl n ↦ rw n (omega arith)
         | inr n ↦ let k = rw n at h in absurd (omega (arith, k))
       ]
 
   first-stays : (base : ℕ) (negative : Bool) (digit after : ℕ) → number_first lo hi base negative digit ≡ Some after → (0 < after) × (after < base + half_points lo hi)
   first-stays base negative digit after e =
-      elim (bool_cases (digit == 0)) [
+      elim (cases_Bool (digit == 0)) [
         | inl z ↦
             let f = lone_one negative after (rw z at e) in
             (omega (arith, f), omega (arith, f))
@@ -427,10 +427,10 @@ module _ (lo hi : ℤ) where
 
   digit-stays : (base : ℕ) (negative : Bool) (at digit after : ℕ) → number_digit lo hi base negative at digit ≡ Some after → (0 < after) × (after < base + half_points lo hi)
   digit-stays base negative at digit after e =
-      elim (bool_cases (at == 0)) [
+      elim (cases_Bool (at == 0)) [
         | inl z ↦ first-stays base negative digit after (rw z at e)
         | inr z ↦
-            elim (bool_cases (at == 1)) [
+            elim (cases_Bool (at == 1)) [
               | inl o ↦ absurd (none_some after (rw (z, o) at e))
               | inr o ↦
                   let f = shifted-some base (free_next 10 (most_digits lo hi) (magnitude lo) (magnitude hi) at digit) after (rw (z, o) at e) in
@@ -443,9 +443,9 @@ module _ (lo hi : ℤ) where
   -- no letter leads past the points, or back to the start
   pub number-stays : (point letter after : ℕ) → point < number_size lo hi → number_next lo hi point letter ≡ Some after → (letter < 256) × (after < number_size lo hi) × (0 < after)
   number-stays point letter after h e =
-      elim (bool_cases (ltb (digit_of letter) 10)) [
+      elim (cases_Bool (ltb (digit_of letter) 10)) [
         | inl d ↦
-            let l = digit-byte letter (omega (arith, less_from (digit_of letter) 10 d)) in
+            let l = digit-byte letter (omega (arith, ltb-true (digit_of letter) 10 d)) in
             elim (below point (half_points lo hi)) [
               | inl t ↦
                   let f = digit-stays 0 false point (digit_of letter) after (rw (d, t.0) at e) in
@@ -455,9 +455,9 @@ module _ (lo hi : ℤ) where
                   (l, size-twice point after h t.1 f.1, f.0)
             ]
         | inr d ↦
-            let f = guarded_some ((letter == 45 && point == 0) && is_negative lo) (half_points lo hi) after (rw d at e) in
-            let a = and-true (letter == 45 && point == 0) (is_negative lo) f.0 in
-            let b = and-true (letter == 45) (point == 0) a.0 in
+            let f = cond_some ((letter == 45 && point == 0) && is_negative lo) (half_points lo hi) after (rw d at e) in
+            let a = and_parts (letter == 45 && point == 0) (is_negative lo) f.0 in
+            let b = and_parts (letter == 45) (point == 0) a.0 in
             let l : letter < 256 = grind (arith, nat_tests, b.0) in
             (l, rw (a.1, ← f.1) (omega arith), rw (← f.1) (omega arith))
       ]

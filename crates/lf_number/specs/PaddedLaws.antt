@@ -4,17 +4,20 @@ use Rattle.std.specs.Prelude.{ℤ, pos, negsuc, ◌≤ℤ◌, replicate}
 use Rattle.std.proofs.Math.Nat.{zero-mod}
 use Rattle.std.proofs.lemmas.Nat.{div-add-mod'}
 use Rattle.std.proofs.lemmas.Bool.Decides.{nat_tests}
+use Rattle.std.proofs.lemmas.Bool.{cases_Bool, lt-ltb, ltb-true}
+use Rattle.std.proofs.lemmas.Option.{cond_some}
 use Rattle.lf_core.specs.Domain.{IsDomain}
-use Rattle.lf_core.proofs.Accepts.{map_option, IsImage, guarded, guarded_some}
-use Rattle.lf_number.specs.Digits.{below, to_less, less_from, bool_cases, letter-is, digit-taken, digit-byte, digits-one, digits-push, width-one, width-more, width-push, width-least, width-rises, quotient-positive, rest-below, push-least, front-quotient, front-push, front-none, front-zero, none-front, last-push, last-padded, value-digits, value-zeros, value_after-append}
+use Rattle.lf_core.specs.AcceptsLaws.{map_option, IsImage, guarded}
+use Rattle.lf_number.specs.Digits.{letter-is, digit-taken, digit-byte, digits-one, digits-push, width-one, width-more, width-push, width-least, width-rises, quotient-positive, rest-below, push-least, front-quotient, front-push, front-none, front-zero, none-front, last-push, last-padded, value-digits, value-zeros, value_after-append}
 use Rattle.lf_number.specs.Sides.{three-most}
 use Rattle.lf_number.specs.Free.{free-least, free-count, free-whole_low, free-whole_high, counted_at, counted-most}
 use Rattle.lf_number.specs.Range.{range-pos, pos-range}
 use Rattle.lf_number.specs.Mixed.{Reading, begun, lone_zero, whole, counted, point, read_digit, IsFree, digit-goes, free-below, mixed-most, under_test, done-at}
 use Rattle.lf_number.specs.ReadingLaws.{IsReading, AcceptsNumbers, reading_accepts, num_laws}
-use Rattle.lf_number.specs.NumberLaws.{place-apart, below-magnitude, below-zero, value-apart, unwrap, cond-true, not_zero, is_zero, guarded_true}
+use Rattle.lf_number.specs.NumberLaws.{place-apart, below-magnitude, below-zero, value-apart, cond-true, not_zero, is_zero, guarded_true}
 use Rattle.lf_number.specs.Numbers.{IsRadix, digit_letter, digit_of, digits, width, magnitude, last_digits, padded_text, padded_digits, padded_size, IsBetween, HoldsNumber, num_text}
 use Rattle.lf_number.specs.Machines.{value_after, front, three, in_range, mixed_digit, counted_done, padded_zero, padded_next, padded_ends, padded_machine}
+use Rattle.lf_core.specs.Choices.{below, unwrap}
 
 at_least : (least k : ℕ) → least ≤ k → leb least k ≡ true
 at_least least k h = grind (arith, nat_tests)
@@ -81,7 +84,7 @@ module _ (r : ℕ) (is : IsRadix r) (least : ℕ) (lo hi : ℤ) where
 
   first-step : (c : ℕ) (t : Reading) → digit_of c < r → digit_read begun (digit_of c) ≡ Some t → Step begun c t
   first-step c t d e =
-      elim (bool_cases (digit_of c == 0)) [
+      elim (cases_Bool (digit_of c == 0)) [
         | inl z ↦
             let y : digit_of c ≡ 0 = is_zero (digit_of c) z in
             subst (λ (x : Reading). Step begun c x) (unwrap (counted 1 0) t (rw z at e))
@@ -94,8 +97,8 @@ module _ (r : ℕ) (is : IsRadix r) (least : ℕ) (lo hi : ℤ) where
 
   whole-step : (p c : ℕ) (t : Reading) → CanRead (whole p) → digit_of c < r → digit_read (whole p) (digit_of c) ≡ Some t → Step (whole p) c t
   whole-step p c t h d e =
-      let g = guarded_some (ltb (width r p) (padded_digits r least hi)) (whole (p * r + digit_of c)) t e in
-      let l = less_from (width r p) (padded_digits r least hi) g.0 in
+      let g = cond_some (ltb (width r p) (padded_digits r least hi)) (whole (p * r + digit_of c)) t e in
+      let l = ltb-true (width r p) (padded_digits r least hi) g.0 in
       subst (λ (x : Reading). Step (whole p) c x) g.1 (
         (push-positive r is p (digit_of c) h.0, omega (arith, l, width-push r is p (digit_of c) h.0 d)),
         digits-push r is p (digit_of c) h.0 d ∙ ap (λ (x : ℕ). digits r p ++ x ∷ []) (letter-is r is c d),
@@ -103,8 +106,8 @@ module _ (r : ℕ) (is : IsRadix r) (least : ℕ) (lo hi : ℤ) where
 
   counted-step : (done q c : ℕ) (t : Reading) → CanRead (counted (suc done) q) → digit_of c < r → digit_read (counted (suc done) q) (digit_of c) ≡ Some t → Step (counted (suc done) q) c t
   counted-step done q c t h d e =
-      let g = guarded_some (ltb (suc done) top) (counted (suc (suc done)) (q * r + digit_of c)) t e in
-      let l = less_from (suc done) top g.0 in
+      let g = cond_some (ltb (suc done) top) (counted (suc (suc done)) (q * r + digit_of c)) t e in
+      let l = ltb-true (suc done) top g.0 in
       subst (λ (x : Reading). Step (counted (suc done) q) c x) g.1 (
         (omega (arith, l), front-push r q (digit_of c) done d ∙ h.1),
         last-push r is (suc done) q (digit_of c) d ∙ ap (λ (x : ℕ). last_digits r (suc done) q ++ x ∷ []) (letter-is r is c d),
@@ -120,7 +123,7 @@ module _ (r : ℕ) (is : IsRadix r) (least : ℕ) (lo hi : ℤ) where
   step : (s : Reading) (c : ℕ) (t : Reading) → CanRead s → read s c ≡ Some t → Step s c t
   step s c t h e =
       let g = guarded (ltb (digit_of c) r) (digit_read s (digit_of c)) t e in
-      digit-step s c t h (less_from (digit_of c) r g.0) g.1
+      digit-step s c t h (ltb-true (digit_of c) r g.0) g.1
 
   read-digit : (s : Reading) (n : ℕ) → n < r → read s (digit_letter n) ≡ digit_read s n
   read-digit s n h = digit-taken r is n (digit_read s) None h
@@ -137,7 +140,7 @@ module _ (r : ℕ) (is : IsRadix r) (least : ℕ) (lo hi : ℤ) where
             inr (begun, digit_letter p, tt, read-digit begun p t.1 ∙ e)
         | inr t ↦
             let w = width-more r is p t.1 in
-            let l : ltb (width r (p / r)) (padded_digits r least hi) ≡ true = to_less (width r (p / r)) (padded_digits r least hi) (omega (arith, h.1)) in
+            let l : ltb (width r (p / r)) (padded_digits r least hi) ≡ true = lt-ltb (width r (p / r)) (padded_digits r least hi) (omega (arith, h.1)) in
             let e : digit_read (whole (p / r)) (p % r) ≡ Some (whole p) = rw l (ap (λ (m : ℕ). Some (whole m)) (div-add-mod' p r)) in
             inr (whole (p / r), digit_letter (p % r), (quotient-positive r is p t.1, omega (arith, h.1)), read-digit (whole (p / r)) (p % r) (rest-below r is p) ∙ e)
       ]
@@ -148,7 +151,7 @@ module _ (r : ℕ) (is : IsRadix r) (least : ℕ) (lo hi : ℤ) where
 
   before-counted : (done q : ℕ) → CanRead (counted (suc (suc done)) q) → Before (counted (suc (suc done)) q)
   before-counted done q h =
-      let l : ltb (suc done) top ≡ true = to_less (suc done) top (omega (arith, h.0)) in
+      let l : ltb (suc done) top ≡ true = lt-ltb (suc done) top (omega (arith, h.0)) in
       let e : digit_read (counted (suc done) (q / r)) (q % r) ≡ Some (counted (suc (suc done)) q) = rw l (ap (λ (m : ℕ). Some (counted (suc (suc done)) m)) (div-add-mod' q r)) in
       inr (counted (suc done) (q / r), digit_letter (q % r), (omega (arith, h.0), front-quotient r q done ∙ h.1), read-digit (counted (suc done) (q / r)) (q % r) (rest-below r is q) ∙ e)
 
@@ -189,7 +192,7 @@ module _ (r : ℕ) (is : IsRadix r) (least : ℕ) (lo hi : ℤ) where
   goes s c h =
       under_test at_point (ltb (digit_of c) r) (next_digit (padded_zero r least lo hi) s (digit_of c)) None (digit_read s (digit_of c)) None
       (λ d. ap (λ (x : ℕ). next_digit x s (digit_of c)) zero-point
-      ∙ digit-goes r is (padded_digits r least hi) (magnitude lo) (magnitude hi) (magnitude lo) (magnitude hi) top (counted 1 0) s (digit_of c) (free s h) (less_from (digit_of c) r d))
+      ∙ digit-goes r is (padded_digits r least hi) (magnitude lo) (magnitude hi) (magnitude lo) (magnitude hi) top (counted 1 0) s (digit_of c) (free s h) (ltb-true (digit_of c) r d))
       (λ _. refl)
 
   ends-past : (x : ℕ) → padded_ends r least lo hi ((9 * padded_digits r least hi + 2) + x) ≡ counted_done lo hi x
@@ -292,7 +295,7 @@ module _ (r : ℕ) (is : IsRadix r) (least : ℕ) (lo hi : ℤ) where
       let one = most-least in
       let z = zero-below in
       let m = mixed-most r is (padded_digits r least hi) (magnitude lo) (magnitude hi) (magnitude lo) (magnitude hi) top (padded_zero r least lo hi) at (digit_of letter) after (padded_digits r least hi - 1) one (omega arith) (omega arith) g.1 in
-      let d = less_from (digit_of letter) r g.0 in
+      let d = ltb-true (digit_of letter) r g.0 in
       (digit-byte letter (omega (arith, is.most)), omega arith)
 
   module _ (low : pos 0 ≤ℤ lo) where

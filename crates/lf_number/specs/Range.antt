@@ -1,7 +1,8 @@
-use Rattle.std.proofs.Common.{◌≡◌, ℕ, suc, ◌≤◌, Bool, true, false, leb, ◌&&◌, refl, arith}
+use Rattle.std.proofs.Common.{◌≡◌, ℕ, suc, ◌≤◌, true, false, leb, ◌&&◌, arith}
 use Rattle.std.specs.Prelude.{ℤ, pos, negsuc, ◌≤ℤ◌}
 use Rattle.std.proofs.lemmas.Int.{ints}
 use Rattle.std.proofs.lemmas.Bool.Decides.{nat_tests}
+use Rattle.std.proofs.lemmas.Bool.{and_parts}
 use Rattle.lf_number.specs.Numbers.{magnitude}
 use Rattle.lf_number.specs.Machines.{three, in_range}
 
@@ -17,17 +18,13 @@ at_least-three p q h = grind (arith, nat_tests)
 at_most-three : (p q : ℕ) → p ≤ q → leb (three p q) 1 ≡ true
 at_most-three p q h = grind (arith, nat_tests)
 
-pub and-true : (a b : Bool) → a && b ≡ true → (a ≡ true) × (b ≡ true)
-and-true true b h = (refl, h)
-and-true false b h = cc
-
 pub range-pos : (lo hi : ℤ) (n : ℕ) → in_range lo hi false (three n (magnitude lo)) (three n (magnitude hi)) ≡ true → (lo ≤ℤ pos n) × (pos n ≤ℤ hi)
 range-pos (pos a) (pos b) n h =
-    let k = and-true _ _ h in
+    let k = and_parts _ _ h in
     let l = three-at_least n a k.0 in
     let m = three-at_most n b k.1 in
     (omega (arith, ints), omega (arith, ints))
-range-pos (pos a) (negsuc b) n h = let k : false ≡ true = (and-true (leb 1 (three n a)) false h).1 in cc
+range-pos (pos a) (negsuc b) n h = let k : false ≡ true = (and_parts (leb 1 (three n a)) false h).1 in cc
 range-pos (negsuc a) (pos b) n h =
     let m = three-at_most n b h in
     (omega (arith, ints), omega (arith, ints))
@@ -44,11 +41,11 @@ pub range-neg : (lo hi : ℤ) (n : ℕ) → in_range lo hi true (three (suc n) (
 range-neg (pos a) (pos b) n h = cc
 range-neg (pos a) (negsuc b) n h = cc
 range-neg (negsuc a) (pos b) n h =
-    let k = and-true _ _ h in
+    let k = and_parts _ _ h in
     let m = three-at_most (suc n) (suc a) k.0 in
     (omega (arith, ints), omega (arith, ints))
 range-neg (negsuc a) (negsuc b) n h =
-    let k = and-true _ _ h in
+    let k = and_parts _ _ h in
     let l = three-at_most (suc n) (suc a) k.0 in
     let m = three-at_least (suc n) (suc b) k.1 in
     (omega (arith, ints), omega (arith, ints))

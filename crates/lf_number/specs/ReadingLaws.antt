@@ -2,7 +2,7 @@
 use Rattle.std.proofs.Common.{◌≡◌, ℕ, zero, suc, ◌+◌, ◌<◌, ◌≤◌, ◌⊎◌, inl, inr, List, [], ◌∷◌, ◌++◌, length, Option, Some, Bool, true, sym, ap, ◌∙◌, arith, append_assoc, append-nil, length-append}
 use Rattle.std.specs.Prelude.{ℤ}
 use Rattle.lf_core.specs.Domain.{accepts, LetterMachine, IsDomain}
-use Rattle.lf_core.proofs.Accepts.{accepts-first, accepts-step, accepts-image, IsImage}
+use Rattle.lf_core.specs.AcceptsLaws.{accepts-first, accepts-step, accepts-image, IsImage}
 use Rattle.lf_core.specs.declared.values.Value.{Value}
 use Rattle.lf_core.specs.declared.values.Value.TheVariants.{Num}
 use Rattle.lf_number.specs.Numbers.{IsNum, num_text}

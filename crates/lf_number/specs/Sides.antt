@@ -1,9 +1,10 @@
 use Rattle.std.proofs.Common.{◌≡◌, ℕ, suc, ◌+◌, ◌-◌, ◌*◌, ◌/◌, ◌%◌, ◌<◌, ◌≤◌, inl, inr, Bool, true, false, cond, ◌==◌, sym, ap, ◌∙◌, arith}
 use Rattle.std.proofs.lemmas.Nat.{div-add-mod', row_fits}
 use Rattle.std.proofs.lemmas.Bool.Decides.{nat_tests}
-use Rattle.lf_number.specs.Digits.{below, width-push, width-least, width-rises, front-all}
+use Rattle.lf_number.specs.Digits.{width-push, width-least, width-rises, front-all}
 use Rattle.lf_number.specs.Numbers.{IsRadix, width}
 use Rattle.lf_number.specs.Machines.{front, three, side, push_side, next_side, whole_side}
+use Rattle.lf_core.specs.Choices.{below}
 
 pub three-greater : (p q : ℕ) → q < p → three p q ≡ 2
 three-greater p q h = grind (arith, nat_tests)

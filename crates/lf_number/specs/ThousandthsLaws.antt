@@ -3,17 +3,20 @@ use Rattle.std.proofs.Common.{◌≡◌, ℕ, zero, suc, ◌+◌, ◌-◌, ◌*�
 use Rattle.std.specs.Prelude.{ℤ, pos, negsuc, ◌≤ℤ◌}
 use Rattle.std.proofs.lemmas.Nat.{div-add-mod'}
 use Rattle.std.proofs.lemmas.Bool.Decides.{nat_tests}
+use Rattle.std.proofs.lemmas.Bool.{cases_Bool, lt-ltb, ltb-true}
+use Rattle.std.proofs.lemmas.Option.{cond_some}
 use Rattle.lf_core.specs.Domain.{IsDomain}
-use Rattle.lf_core.proofs.Accepts.{map_option, IsImage, guarded, guarded_some}
-use Rattle.lf_number.specs.Digits.{below, to_less, less_from, bool_cases, ten, letter-is, digit-taken, digit-byte, point-no_digit, zero-is_digit, digits-one, digits-push, width-one, width-more, width-push, width-least, width-rises, front-quotient, front-push, last-push, value-digits, value-last, value-other, value_after-append}
+use Rattle.lf_core.specs.AcceptsLaws.{map_option, IsImage, guarded}
+use Rattle.lf_number.specs.Digits.{ten, letter-is, digit-taken, digit-byte, point-no_digit, zero-is_digit, digits-one, digits-push, width-one, width-more, width-push, width-least, width-rises, front-quotient, front-push, last-push, value-digits, value-last, value-other, value_after-append}
 use Rattle.lf_number.specs.Sides.{three-most, whole_side-most}
 use Rattle.lf_number.specs.Free.{free-least, free-whole_low, free-whole_high, counted_at, counted-most}
 use Rattle.lf_number.specs.Range.{range-pos, pos-range}
 use Rattle.lf_number.specs.Mixed.{Reading, begun, lone_zero, whole, counted, point, read_digit, IsFree, digit-goes, free-below, mixed-most, under_test, done-at}
 use Rattle.lf_number.specs.ReadingLaws.{IsReading, AcceptsNumbers, reading_accepts, num_laws}
-use Rattle.lf_number.specs.NumberLaws.{place-apart, below-magnitude, below-zero, value-apart, unwrap, by_true, by_false, not_zero, is_zero, guarded_true, none_some, zero-letter, zero-text}
+use Rattle.lf_number.specs.NumberLaws.{place-apart, below-magnitude, below-zero, value-apart, by_true, by_false, not_zero, is_zero, guarded_true, none_some, zero-letter, zero-text}
 use Rattle.lf_number.specs.Numbers.{digit_letter, digit_of, decimal, width, magnitude, last_digits, thousandths_text, whole_digits, thousandths_size, IsBetween, HoldsNumber, num_text}
 use Rattle.lf_number.specs.Machines.{value_after, front, three, in_range, whole_side, counted_place, mixed_digit, counted_done, thousandths_point, thousandths_next, thousandths_ends, thousandths_machine}
+use Rattle.lf_core.specs.Choices.{below, unwrap}
 
 thousand : (m : ℕ) → front 10 m 3 ≡ m / 1000
 thousand m = omega arith
@@ -74,7 +77,7 @@ module _ (lo hi : ℤ) where
 
   first-step : (c : ℕ) (t : Reading) → digit_of c < 10 → digit_read begun (digit_of c) ≡ Some t → Step begun c t
   first-step c t d e =
-      elim (bool_cases (digit_of c == 0)) [
+      elim (cases_Bool (digit_of c == 0)) [
         | inl z ↦
             subst (λ (x : Reading). Step begun c x) (unwrap lone_zero t (rw z at e))
             (tt, ap (λ (x : ℕ). x ∷ []) (zero-letter c z))
@@ -86,8 +89,8 @@ module _ (lo hi : ℤ) where
 
   whole-step : (p c : ℕ) (t : Reading) → CanRead (whole p) → digit_of c < 10 → digit_read (whole p) (digit_of c) ≡ Some t → Step (whole p) c t
   whole-step p c t h d e =
-      let g = guarded_some (ltb (width 10 p) (whole_digits hi)) (whole (p * 10 + digit_of c)) t e in
-      let l = less_from (width 10 p) (whole_digits hi) g.0 in
+      let g = cond_some (ltb (width 10 p) (whole_digits hi)) (whole (p * 10 + digit_of c)) t e in
+      let l = ltb-true (width 10 p) (whole_digits hi) g.0 in
       subst (λ (x : Reading). Step (whole p) c x) g.1 (
         (omega (arith, h.0), omega (arith, l, width-push 10 ten p (digit_of c) h.0 d)),
         digits-push 10 ten p (digit_of c) h.0 d ∙ ap (λ (x : ℕ). decimal p ++ x ∷ []) (letter-is 10 ten c d),
@@ -95,8 +98,8 @@ module _ (lo hi : ℤ) where
 
   counted-step : (done q c : ℕ) (t : Reading) → CanRead (counted done q) → digit_of c < 10 → digit_read (counted done q) (digit_of c) ≡ Some t → Step (counted done q) c t
   counted-step done q c t h d e =
-      let g = guarded_some (ltb done 3) (counted (suc done) (q * 10 + digit_of c)) t e in
-      let l = less_from done 3 g.0 in
+      let g = cond_some (ltb done 3) (counted (suc done) (q * 10 + digit_of c)) t e in
+      let l = ltb-true done 3 g.0 in
       let f : front 10 (q * 10 + digit_of c) (suc done) ≡ front 10 q done = front-push 10 q (digit_of c) done d in
       subst (λ (x : Reading). Step (counted done q) c x) g.1 (
         (omega (arith, l), subst (λ (x : ℕ). width 10 x ≤ whole_digits hi) (sym f) h.1),
@@ -123,8 +126,8 @@ module _ (lo hi : ℤ) where
 
   step : (s : Reading) (c : ℕ) (t : Reading) → CanRead s → read s c ≡ Some t → Step s c t
   step s c t h e =
-      elim (bool_cases (ltb (digit_of c) 10)) [
-        | inl d ↦ digit-step s c t h (less_from (digit_of c) 10 d) (by_true (ltb (digit_of c) 10) (digit_read s (digit_of c)) (cond (c == 46) (point_read s) None) t d e)
+      elim (cases_Bool (ltb (digit_of c) 10)) [
+        | inl d ↦ digit-step s c t h (ltb-true (digit_of c) 10 d) (by_true (ltb (digit_of c) 10) (digit_read s (digit_of c)) (cond (c == 46) (point_read s) None) t d e)
         | inr d ↦
             let g = guarded (c == 46) (point_read s) t (by_false (ltb (digit_of c) 10) (digit_read s (digit_of c)) (cond (c == 46) (point_read s) None) t d e) in
             let y : 46 ≡ c = grind (arith, nat_tests, g.0) in
@@ -149,7 +152,7 @@ module _ (lo hi : ℤ) where
             inr (begun, digit_letter p, tt, read-digit begun p t.1 ∙ e)
         | inr t ↦
             let w = width-more 10 ten p t.1 in
-            let l : ltb (width 10 (p / 10)) (whole_digits hi) ≡ true = to_less (width 10 (p / 10)) (whole_digits hi) (omega (arith, h.1)) in
+            let l : ltb (width 10 (p / 10)) (whole_digits hi) ≡ true = lt-ltb (width 10 (p / 10)) (whole_digits hi) (omega (arith, h.1)) in
             let e : digit_read (whole (p / 10)) (p % 10) ≡ Some (whole p) = rw l (ap (λ (m : ℕ). Some (whole m)) (div-add-mod' p 10)) in
             inr (whole (p / 10), digit_letter (p % 10), (omega (arith, t.1), omega (arith, h.1)), read-digit (whole (p / 10)) (p % 10) (omega arith) ∙ e)
       ]
@@ -160,7 +163,7 @@ module _ (lo hi : ℤ) where
 
   before-counted : (done q : ℕ) → CanRead (counted (suc done) q) → Before (counted (suc done) q)
   before-counted done q h =
-      let l : ltb done 3 ≡ true = to_less done 3 (omega (arith, h.0)) in
+      let l : ltb done 3 ≡ true = lt-ltb done 3 (omega (arith, h.0)) in
       let e : digit_read (counted done (q / 10)) (q % 10) ≡ Some (counted (suc done) q) = rw l (ap (λ (m : ℕ). Some (counted (suc done) m)) (div-add-mod' q 10)) in
       inr (counted done (q / 10), digit_letter (q % 10), (omega (arith, h.0), subst (λ (x : ℕ). width 10 x ≤ whole_digits hi) (sym (front-quotient 10 q done)) h.1), read-digit (counted done (q / 10)) (q % 10) (omega arith) ∙ e)
 
@@ -219,12 +222,12 @@ module _ (lo hi : ℤ) where
   goes : (s : Reading) (c : ℕ) → CanRead s → thousandths_next lo hi (at_point s) c ≡ map_option at_point (read s c)
   goes s c h =
       under_test at_point (ltb (digit_of c) 10) (next_digit s (digit_of c)) (cond (c == 46) (thousandths_point lo hi (at_point s)) None) (digit_read s (digit_of c)) (cond (c == 46) (point_read s) None)
-      (λ d. digit-goes 10 ten (whole_digits hi) (magnitude lo / 1000) (magnitude hi / 1000) (magnitude lo) (magnitude hi) 3 lone_zero s (digit_of c) (free s h) (less_from (digit_of c) 10 d))
+      (λ d. digit-goes 10 ten (whole_digits hi) (magnitude lo / 1000) (magnitude hi / 1000) (magnitude lo) (magnitude hi) 3 lone_zero s (digit_of c) (free s h) (ltb-true (digit_of c) 10 d))
       (λ _. under_test at_point (c == 46) (thousandths_point lo hi (at_point s)) None (point_read s) None (λ _. point-goes s h) (λ _. refl))
 
   same : (s : Reading) → CanRead s → thousandths_ends lo hi (at_point s) ≡ is_read s
-  same begun h = let t : ltb 0 (9 * whole_digits hi + 2) ≡ true = to_less 0 (9 * whole_digits hi + 2) (omega arith) in rw t
-  same lone_zero h = let t : ltb 1 (9 * whole_digits hi + 2) ≡ true = to_less 1 (9 * whole_digits hi + 2) (omega arith) in rw t
+  same begun h = let t : ltb 0 (9 * whole_digits hi + 2) ≡ true = lt-ltb 0 (9 * whole_digits hi + 2) (omega arith) in rw t
+  same lone_zero h = let t : ltb 1 (9 * whole_digits hi + 2) ≡ true = lt-ltb 1 (9 * whole_digits hi + 2) (omega arith) in rw t
   same (whole p) h =
       let t = free-below 10 ten (whole_digits hi) (magnitude lo / 1000) (magnitude hi / 1000) (magnitude lo) (magnitude hi) 3 p h.1 in
       rw t
@@ -273,10 +276,10 @@ module _ (lo hi : ℤ) where
 
     point-stays : (at after : ℕ) → thousandths_point lo hi at ≡ Some after → after < thousandths_size hi
     point-stays at after e =
-        elim (bool_cases (at == 0)) [
+        elim (cases_Bool (at == 0)) [
           | inl z ↦ absurd (none_some after (rw z at e))
           | inr z ↦
-              elim (bool_cases (at == 1)) [
+              elim (cases_Bool (at == 1)) [
                 | inl o ↦
                     let m = counted-most 3 (three 0 (magnitude lo / 1000)) (three 0 (magnitude hi / 1000)) (three-most 0 (magnitude lo / 1000)) (three-most 0 (magnitude hi / 1000)) 3 (omega arith) in
                     let f = unwrap ((9 * whole_digits hi + 2) + counted_place 3 (three 0 (magnitude lo / 1000)) (three 0 (magnitude hi / 1000))) after (rw (z, o) at e) in
@@ -296,10 +299,10 @@ module _ (lo hi : ℤ) where
 
     thousandths-stays : (at letter after : ℕ) → at < thousandths_size hi → thousandths_next lo hi at letter ≡ Some after → (letter < 256) × (after < thousandths_size hi)
     thousandths-stays at letter after h e =
-        elim (bool_cases (ltb (digit_of letter) 10)) [
+        elim (cases_Bool (ltb (digit_of letter) 10)) [
           | inl d ↦
               let m = mixed-most 10 ten (whole_digits hi) (magnitude lo / 1000) (magnitude hi / 1000) (magnitude lo) (magnitude hi) 3 1 at (digit_of letter) after 3 (width-least 10 ten (magnitude hi / 1000)) (omega arith) (omega (arith, h)) (rw d at e) in
-              (digit-byte letter (omega (arith, less_from (digit_of letter) 10 d)), omega (arith, m))
+              (digit-byte letter (omega (arith, ltb-true (digit_of letter) 10 d)), omega (arith, m))
           | inr d ↦
               let g = guarded (letter == 46) (thousandths_point lo hi at) after (rw d at e) in
               let l : letter < 256 = grind (arith, nat_tests, g.0) in

@@ -14,6 +14,3 @@ pub use dash_zero::DashZero;
 pub use fixed3::Fixed3;
 pub use num_range::NumRange;
 pub use padded::{Padded, Radix};
-
-#[cfg(test)]
-mod number_tests;

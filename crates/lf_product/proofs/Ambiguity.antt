@@ -4,7 +4,7 @@ use Rattle.std.specs.List.{Contains}
 use Rattle.std.proofs.lemmas.Bool.{cases_lt}
 use Rattle.lf_core.specs.declared.marked.Move.{Move}
 use Rattle.lf_core.specs.Marked.{Machine, IsMachine}
-use Rattle.lf_core.proofs.WrittenLaws.{move_stays}
+use Rattle.lf_core.specs.WrittenLaws.{move_stays}
 use Rattle.lf_product.specs.Distance.{differed_by, Suffices, IsAmbiguous}
 use Rattle.lf_product.proofs.RunPairs.{ambiguous_from_steps, steps_from_ambiguous}
 use Rattle.lf_product.proofs.Deciding.{Decided, both-decided, either-decided, not-decided, bool-decided, some_below, some_listed, sum_to, sum_le, sum_lt, one_if, one_low, one_le, one_lt, stands_still}

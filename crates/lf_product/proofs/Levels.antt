@@ -8,7 +8,7 @@ use Rattle.std.proofs.lemmas.List.Sums.{sum_by-set}
 use Rattle.std.proofs.lemmas.List.Elements.{Contains-push, Contains-push_cases, Contains-append_left, All-contains}
 use Rattle.lf_core.specs.declared.marked.Move.{Move}
 use Rattle.lf_core.specs.Marked.{Machine, IsMachine}
-use Rattle.lf_product.specs.declared.search.Pair.{Pair}
+use Rattle.lf_product.specs.declared.pair.Pair.{Pair}
 use Rattle.lf_product.specs.Distance.{PairStep, Suffices, IsDistance}
 use Rattle.lf_product.specs.Cells.{cell, steps_at, IsExact}
 use Rattle.lf_product.specs.Level.{pair, Waits, Reached, Grows, Complete, AllBefore, IsWhole, room}

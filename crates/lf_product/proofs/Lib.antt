@@ -8,3 +8,4 @@ pub mod Joins
 pub mod Inbound
 pub mod Deciding
 pub mod Ambiguity
+pub mod WalkSteps

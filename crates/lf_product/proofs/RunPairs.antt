@@ -1,40 +1,12 @@
 -- A number of steps suffices exactly where two runs stand on a list of that many bytes.
 use Rattle.std.proofs.Common.{◌≡◌, ◌≢◌, ℕ, zero, suc, ◌⊎◌, inl, inr, Bool, true, false, ◌&&◌, eqb, List, [], ◌∷◌, length, refl, sym, ap, ◌∙◌, subst, arith, Option, None, Some, is_some}
-use Rattle.std.specs.List.{Contains}
-use Rattle.std.proofs.lemmas.Bool.{cases_eq, and_parts, eqb-true}
+use Rattle.std.proofs.lemmas.Bool.{and_parts, eqb-true}
 use Rattle.lf_core.specs.declared.marked.Move.{Move}
-use Rattle.lf_core.specs.Marked.{Machine, IsRun, stop}
+use Rattle.lf_core.specs.Marked.{Machine}
+use Rattle.lf_core.specs.Runs.{RunsToEnd, IsShared}
+use Rattle.lf_core.specs.RunLaws.{move_is}
 use Rattle.lf_product.specs.Distance.{differed_by, Suffices, IsDistance, IsAmbiguous}
-
--- a run from the point that stops at an end
-abbrev pub RunsToEnd : Machine → ℕ → List ℕ → List Move → Type 0
-RunsToEnd m p line run = IsRun m.moves p line run × (m.is_end (stop p run) ≡ true)
-
-run_to_end : (m : Machine) (p b : ℕ) (x : Move) (line : List ℕ) (run : List Move) (to : ℕ) → Contains (m.moves p b) x → x.to ≡ to → RunsToEnd m to line run → RunsToEnd m p (b ∷ line) (x ∷ run)
-run_to_end m p b x line run to h e (runs, end') = (
-  (h, subst (λ (q : ℕ). IsRun m.moves q line run) (sym e) runs),
-  subst (λ (q : ℕ). m.is_end (stop q run) ≡ true) (sym e) end',
-)
-
--- two runs from two points to ends over one list, with a difference, or one before
-pub record TwoRuns (m : Machine) (n a b : ℕ) (d : Bool) : Type 0 where
-  pub bytes : List ℕ
-  pub left : List Move
-  pub right : List Move
-  pub steps : length bytes ≡ n
-  pub runs_left : RunsToEnd m a bytes left
-  pub runs_right : RunsToEnd m b bytes right
-  pub differ : (d ≡ true) ⊎ (left ≢ right)
-
-pub move_is : (x y : Move) → x.mark ≡ y.mark → x.to ≡ y.to → x ≡ y
-move_is x y h k = ap (λ (v : ℕ). record { mark = v; to = x.to }) h ∙ ap (λ (v : ℕ). record { mark = y.mark; to = v }) k
-
-pub move_cases : (x y : Move) → (x ≡ y) ⊎ (x ≢ y)
-move_cases x y =
-    elim (cases_eq x.mark y.mark) [
-      | inl h ↦ elim (cases_eq x.to y.to) [ inl k ↦ inl (move_is x y h k) | inr n ↦ inr (λ e. n (ap (λ (z : Move). z.to) e)) ]
-      | inr n ↦ inr (λ e. n (ap (λ (z : Move). z.mark) e))
-    ]
+use Rattle.lf_product.specs.Walk.{Shares}
 
 same_move_true : (x y : Move) → (eqb x.mark y.mark && eqb x.to y.to) ≡ true → x ≡ y
 same_move_true x y h =
@@ -65,14 +37,14 @@ head_is x y xs ys h = cc
 tail_is : (x y : Move) (xs ys : List Move) → x ∷ xs ≡ y ∷ ys → xs ≡ ys
 tail_is x y xs ys h = cc
 
-pub differ_on : (d : Bool) (x y : Move) (xs ys : List Move) (d' : Bool) → differed_by d x y ≡ d' → (d' ≡ true) ⊎ (xs ≢ ys) → (d ≡ true) ⊎ ((x ∷ xs) ≢ (y ∷ ys))
+differ_on : (d : Bool) (x y : Move) (xs ys : List Move) (d' : Bool) → differed_by d x y ≡ d' → (d' ≡ true) ⊎ (xs ≢ ys) → (d ≡ true) ⊎ ((x ∷ xs) ≢ (y ∷ ys))
 differ_on d x y xs ys d' e h =
     elim h [
       | inl t ↦ elim (set_by d x y (e ∙ t)) [ inl s ↦ inl s | inr n ↦ inr (λ k. n (head_is x y xs ys k)) ]
       | inr n ↦ inr (λ k. n (tail_is x y xs ys k))
     ]
 
-pub differ_off : (d : Bool) (x y : Move) (xs ys : List Move) → (d ≡ true) ⊎ ((x ∷ xs) ≢ (y ∷ ys)) → (differed_by d x y ≡ true) ⊎ (xs ≢ ys)
+differ_off : (d : Bool) (x y : Move) (xs ys : List Move) → (d ≡ true) ⊎ ((x ∷ xs) ≢ (y ∷ ys)) → (differed_by d x y ≡ true) ⊎ (xs ≢ ys)
 differ_off true x y xs ys h = inl refl
 differ_off false x y xs ys (inl e) = absurd (cc)
 differ_off false x y xs ys (inr n) =
@@ -82,43 +54,64 @@ differ_off false x y xs ys (inr n) =
       | inr (inr t) ↦ inl t
     ]
 
-pub two_runs_from_steps : (m : Machine) (n a b : ℕ) (d : Bool) → Suffices m n a b d → TwoRuns m n a b d
-two_runs_from_steps m zero a b d h = record { bytes = []; left = []; right = []; steps = refl; runs_left = (tt, h.0); runs_right = (tt, h.1); differ = inl h.2 }
-two_runs_from_steps m (suc n) a b d (a', b', d', step, rest) =
-    let t = two_runs_from_steps m n a' b' d' rest in
+-- two runs over the bytes from two points to ends, with a difference, or one before
+pub record Two (m : Machine) (bytes : List ℕ) (a b : ℕ) (d : Bool) : Type 0 where
+  pub left : List Move
+  pub right : List Move
+  pub runs_left : RunsToEnd m a bytes left
+  pub runs_right : RunsToEnd m b bytes right
+  pub differ : (d ≡ true) ⊎ (left ≢ right)
+
+pub two_from_shares : (m : Machine) (cs : List ℕ) (a b : ℕ) (d : Bool) → Shares m cs a b d → Two m cs a b d
+two_from_shares m [] a b d (ea, eb, t) = record { left = []; right = []; runs_left = (tt, ea); runs_right = (tt, eb); differ = inl t }
+two_from_shares m (c ∷ cs) a b d (x, y, hx, hy, rest) =
+    let t = two_from_shares m cs x.to y.to (differed_by d x y) rest in
     record {
-      bytes = step.byte ∷ t.bytes;
-      left = step.left ∷ t.left;
-      right = step.right ∷ t.right;
-      steps = ap suc t.steps;
-      runs_left = run_to_end m a step.byte step.left t.bytes t.left a' step.on_left step.left_to t.runs_left;
-      runs_right = run_to_end m b step.byte step.right t.bytes t.right b' step.on_right step.right_to t.runs_right;
-      differ = differ_on d step.left step.right t.left t.right d' step.value t.differ;
+      left = x ∷ t.left;
+      right = y ∷ t.right;
+      runs_left = ((hx, t.runs_left.0), t.runs_left.1);
+      runs_right = ((hy, t.runs_right.0), t.runs_right.1);
+      differ = differ_on d x y t.left t.right (differed_by d x y) refl t.differ;
     }
 
-pub steps_from_two_runs : (m : Machine) (bytes : List ℕ) (xs ys : List Move) (a b : ℕ) (d : Bool) → RunsToEnd m a bytes xs → RunsToEnd m b bytes ys → (d ≡ true) ⊎ (xs ≢ ys) → Suffices m (length bytes) a b d
-steps_from_two_runs m [] [] [] a b d (h, e) (k, f) (inl t) = (e, f, t)
-steps_from_two_runs m [] [] [] a b d h k (inr n) = absurd (n refl)
-steps_from_two_runs m [] (x ∷ xs) ys a b d (h, e) k g = absurd h
-steps_from_two_runs m [] [] (y ∷ ys) a b d h (k, f) g = absurd k
-steps_from_two_runs m (c ∷ cs) [] ys a b d (h, e) k g = absurd h
-steps_from_two_runs m (c ∷ cs) (x ∷ xs) [] a b d h (k, f) g = absurd k
-steps_from_two_runs m (c ∷ cs) (x ∷ xs) (y ∷ ys) a b d (h, e) (k, f) g = (
-  x.to,
-  y.to,
-  differed_by d x y,
-  record { byte = c; left = x; right = y; on_left = h.0; on_right = k.0; left_to = refl; right_to = refl; value = refl },
-  steps_from_two_runs m cs xs ys x.to y.to (differed_by d x y) (h.1, e) (k.1, f) (differ_off d x y xs ys g),
-)
+pub shares_from_two : (m : Machine) (cs : List ℕ) (xs ys : List Move) (a b : ℕ) (d : Bool) → RunsToEnd m a cs xs → RunsToEnd m b cs ys → (d ≡ true) ⊎ (xs ≢ ys) → Shares m cs a b d
+shares_from_two m [] [] [] a b d (h, e) (k, f) (inl t) = (e, f, t)
+shares_from_two m [] [] [] a b d h k (inr n) = absurd (n refl)
+shares_from_two m [] (x ∷ xs) ys a b d (h, e) k g = absurd h
+shares_from_two m [] [] (y ∷ ys) a b d h (k, f) g = absurd k
+shares_from_two m (c ∷ cs) [] ys a b d (h, e) k g = absurd h
+shares_from_two m (c ∷ cs) (x ∷ xs) [] a b d h (k, f) g = absurd k
+shares_from_two m (c ∷ cs) (x ∷ xs) (y ∷ ys) a b d (h, e) (k, f) g =
+    (x, y, h.0, k.0, shares_from_two m cs xs ys x.to y.to (differed_by d x y) (h.1, e) (k.1, f) (differ_off d x y xs ys g))
+
+pub suffices_from_shares : (m : Machine) (cs : List ℕ) (a b : ℕ) (d : Bool) → Shares m cs a b d → Suffices m (length cs) a b d
+suffices_from_shares m [] a b d h = h
+suffices_from_shares m (c ∷ cs) a b d (x, y, hx, hy, rest) =
+    (x.to, y.to, differed_by d x y, record { byte = c; left = x; right = y; on_left = hx; on_right = hy; left_to = refl; right_to = refl; value = refl }, suffices_from_shares m cs x.to y.to (differed_by d x y) rest)
+
+pub shares_from_suffices : (m : Machine) (n a b : ℕ) (d : Bool) → Suffices m n a b d → (cs : List ℕ) × (length cs ≡ n) × Shares m cs a b d
+shares_from_suffices m zero a b d h = ([], refl, h)
+shares_from_suffices m (suc n) a b d (a', b', d', step, rest) =
+    let r = shares_from_suffices m n a' b' d' rest in
+    let shares : Shares m r.0 step.left.to step.right.to (differed_by d step.left step.right) =
+    subst (λ (v : Bool). Shares m r.0 step.left.to step.right.to v) (sym step.value)
+    (subst (λ (q : ℕ). Shares m r.0 step.left.to q d') (sym step.right_to) (subst (λ (q : ℕ). Shares m r.0 q b' d') (sym step.left_to) r.2)) in
+    (step.byte ∷ r.0, ap suc r.1, (step.left, step.right, step.on_left, step.on_right, shares))
 
 -- both ways, at the start
+pub shared_from_shares : (m : Machine) (cs : List ℕ) → Shares m cs m.first m.first false → IsShared m cs
+shared_from_shares m cs h =
+    let t = two_from_shares m cs m.first m.first false h in
+    (t.left, t.right, t.runs_left, t.runs_right, elim t.differ [ inl e ↦ absurd (cc) | inr k ↦ k ])
+
+pub shares_from_shared : (m : Machine) (cs : List ℕ) → IsShared m cs → Shares m cs m.first m.first false
+shares_from_shared m cs (left, right, h, k, n) = shares_from_two m cs left right m.first m.first false h k (inr n)
+
 pub ambiguous_from_steps : (m : Machine) (n : ℕ) → Suffices m n m.first m.first false → IsAmbiguous m
-ambiguous_from_steps m n h =
-    let t = two_runs_from_steps m n m.first m.first false h in
-    (t.bytes, t.left, t.right, t.runs_left, t.runs_right, elim t.differ [ inl e ↦ absurd (cc) | inr k ↦ k ])
+ambiguous_from_steps m n h = let r = shares_from_suffices m n m.first m.first false h in (r.0, shared_from_shares m r.0 r.2)
 
 pub steps_from_ambiguous : (m : Machine) → IsAmbiguous m → (n : ℕ) × Suffices m n m.first m.first false
-steps_from_ambiguous m (bytes, left, right, h, k, n) = (length bytes, steps_from_two_runs m bytes left right m.first m.first false h k (inr n))
+steps_from_ambiguous m (line, shared) = (length line, suffices_from_shares m line m.first m.first false (shares_from_shared m line shared))
 
 pub ambiguous_if_some : (m : Machine) (s : ℕ) (r : Option ℕ) → s ≡ m.first → IsDistance m s s false r → is_some r ≡ true → IsAmbiguous m
 ambiguous_if_some m s None e h t = absurd (cc)

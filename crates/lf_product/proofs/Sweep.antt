@@ -9,7 +9,7 @@ use Rattle.std.proofs.lemmas.List.{take_more, take-append-drop, get_or-map, take
 use Rattle.std.proofs.lemmas.List.Elements.{Contains-push_cases, Contains-append_left}
 use Rattle.lf_core.specs.declared.marked.Move.{Move}
 use Rattle.lf_core.specs.Marked.{Machine}
-use Rattle.lf_product.specs.declared.search.Pair.{Pair}
+use Rattle.lf_product.specs.declared.pair.Pair.{Pair}
 use Rattle.lf_product.specs.declared.arrivals.Arrival.{Arrival}
 use Rattle.lf_product.specs.Distance.{differed_by, Suffices}
 use Rattle.lf_product.specs.ByteSet.{HasByte}

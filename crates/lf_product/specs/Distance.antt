@@ -1,7 +1,8 @@
 -- Flagged pairs and their distances.
-use Rattle.std.specs.Prelude.{◌≡◌, ◌≢◌, ℕ, zero, suc, ◌≤◌, List, Bool, true, not, ◌||◌, ◌&&◌, eqb, Option, MatchOption, Contains}
+use Rattle.std.specs.Prelude.{◌≡◌, ℕ, zero, suc, ◌≤◌, List, Bool, true, not, ◌||◌, ◌&&◌, eqb, Option, MatchOption, Contains}
 use Rattle.lf_core.specs.declared.marked.Move.{Move}
-use Rattle.lf_core.specs.Marked.{Machine, IsWholeRun}
+use Rattle.lf_core.specs.Marked.{Machine}
+use Rattle.lf_core.specs.Runs.{IsShared}
 
 -- the value after a move of each: it is set where it was before, or where the moves differ
 abbrev pub differed_by : Bool → Move → Move → Bool
@@ -32,6 +33,4 @@ IsDistance machine a b d steps =
 
 -- Two different whole runs stand on one byte list.
 abbrev pub IsAmbiguous : Machine → Type 0
-IsAmbiguous machine =
-    (line : List ℕ) × (left : List Move) × (right : List Move)
-    × IsWholeRun machine line left × IsWholeRun machine line right × (left ≢ right)
+IsAmbiguous machine = (line : List ℕ) × IsShared machine line

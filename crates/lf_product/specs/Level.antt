@@ -4,7 +4,7 @@ use Rattle.std.specs.List.{Contains, count_by}
 use Rattle.lf_core.specs.declared.marked.Move.{Move}
 use Rattle.lf_core.specs.Marked.{Machine}
 use Rattle.lf_product.specs.ByteSet.{HasByte}
-use Rattle.lf_product.specs.declared.search.Pair.{Pair}
+use Rattle.lf_product.specs.declared.pair.Pair.{Pair}
 use Rattle.lf_product.specs.declared.arrivals.Arrival.{Arrival}
 use Rattle.lf_product.specs.Distance.{differed_by, PairStep, Suffices}
 use Rattle.lf_product.specs.Cells.{steps_at}

@@ -4,3 +4,4 @@ pub mod Cells
 pub mod Arcs
 pub mod Level
 pub mod Kept
+pub mod Walk

@@ -2,11 +2,11 @@
 ghost use Rattle.std.specs.Prelude.{◌≡◌, ℕ, ◌<◌, ◌≤◌, ◌⊎◌, ◌++◌, ◌∷◌, [], Contains, length, OnOk, IfOk, slice_index_or, slice_set};
 ghost use Rattle.lf_core.specs.Marked.{IsMachine};
 ghost use Rattle.lf_core.specs.Written.{machine_of, moves_at, points_of};
+ghost use Rattle.lf_limits.specs.Limits.{most_size};
 ghost use Rattle.lf_product.specs.Arcs.{seen as seen_of, IsSeen, Departs, HaveBytes, lists_of};
 ghost use Rattle.lf_product.specs.Level.{AreArrivals};
 
 use crate::byte_set::ByteSet;
-use crate::limits::MOST_POINTS;
 use lf_core::{Move, OutOfMemory};
 use lf_written::Table;
 use std::alloc::Global;
@@ -126,7 +126,7 @@ pub(crate) fn arrivals_of(
     marked: bool,
 ) -> Result<Vec<Vec<Arrival>>, OutOfMemory>
     requires lawful { IsMachine (machine_of table.now) }
-    requires few { (machine_of table.now).count ≤ MOST_POINTS }
+    requires few { (machine_of table.now).count ≤ most_size }
     ensures { IfOk result (λ v. AreArrivals (machine_of table.now) marked (lists_of v.items)) }
 {
     let mut arrivals = no_arrivals(alloc, table.points() as usize)?;

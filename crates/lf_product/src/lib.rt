@@ -1,12 +1,14 @@
-//! Distances of pairs of points, and whether two different whole runs stand on one byte list.
+//! Distances of pairs of points, whether two different whole runs stand on one byte list, and the least word of a level of pairs.
 #![tactic(auto)]
 
 mod arrivals;
 mod byte_set;
 pub mod laws;
-mod limits;
+mod pair;
 mod pairs;
 mod search;
+mod walk;
 
-pub use limits::MOST_POINTS;
+pub use pair::Pair;
 pub use pairs::{Pairs, distances};
+pub use walk::{least_word, next_on};

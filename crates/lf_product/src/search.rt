@@ -4,11 +4,12 @@ ghost use Rattle.lf_core.specs.Marked.{Machine, IsMachine};
 ghost use Rattle.lf_product.specs.Distance.{Suffices};
 ghost use Rattle.lf_product.specs.Cells.{cell, steps_at, IsExact};
 ghost use Rattle.lf_core.specs.Written.{machine_of};
+ghost use Rattle.lf_limits.specs.Limits.{most_size};
 ghost use Rattle.lf_product.specs.Arcs.{lists_of};
 ghost use Rattle.lf_product.specs.Level.{Reached, Grows, Complete, AllBefore, room, IsWhole, Follows, AreArrivals, IsCovered, AreBefore, StepBy, Tell};
 
 use crate::arrivals::{Arrival, arrivals_of};
-use crate::limits::MOST_POINTS;
+use crate::pair::Pair;
 use lf_core::OutOfMemory;
 use lf_written::Table;
 use std::alloc::Global;
@@ -16,18 +17,10 @@ use std::alloc::Global;
 /// No distance yet.
 pub(crate) const NONE: u32 = u32::MAX;
 
-/// Two points, and whether the runs that led there differ.
-#[derive(Clone, Copy, Debug)]
-pub(crate) struct Pair {
-    pub(crate) left: u32,
-    pub(crate) right: u32,
-    pub(crate) differed: bool,
-}
-
 /// Where the distance of a flagged pair stands, whichever of its points comes first.
 pub(crate) fn place(pair: Pair) -> usize
-    requires left { pair.left < MOST_POINTS }
-    requires right { pair.right < MOST_POINTS }
+    requires left { pair.left < most_size }
+    requires right { pair.right < most_size }
     ensures { result ≡ cell pair.left pair.right pair.differed }
 {
     let low = pair.left.min(pair.right) as usize;
@@ -43,7 +36,7 @@ fn reach(
     pair: Pair,
     steps: u32,
 ) -> Result<(), OutOfMemory>
-    requires few { (machine_of table.now).count ≤ MOST_POINTS }
+    requires few { (machine_of table.now).count ≤ most_size }
     requires left { pair.left < (machine_of table.now).count }
     requires right { pair.right < (machine_of table.now).count }
     requires small { steps < NONE }
@@ -77,7 +70,7 @@ fn reach_by(
     pair: Pair,
     steps: u32,
 ) -> Result<(), OutOfMemory>
-    requires few { (machine_of table.now).count ≤ MOST_POINTS }
+    requires few { (machine_of table.now).count ≤ most_size }
     requires left { x.now.from < (machine_of table.now).count }
     requires right { y.now.from < (machine_of table.now).count }
     requires step { StepBy (machine_of table.now) x.now y.now pair }
@@ -149,7 +142,7 @@ fn reach_from(
     pair: Pair,
     steps: u32,
 ) -> Result<(), OutOfMemory>
-    requires few { (machine_of table.now).count ≤ MOST_POINTS }
+    requires few { (machine_of table.now).count ≤ most_size }
     requires arrivals { Tell (machine_of table.now) (lists_of arrivals.now) pair }
     requires left { pair.left < (machine_of table.now).count }
     requires right { pair.right < (machine_of table.now).count }
@@ -188,7 +181,7 @@ fn next_level(
     level: &[Pair],
     steps: u32,
 ) -> Result<Vec<Pair>, OutOfMemory>
-    requires few { (machine_of table.now).count ≤ MOST_POINTS }
+    requires few { (machine_of table.now).count ≤ most_size }
     requires marked { AreArrivals (machine_of table.now) true (lists_of marked.now) }
     requires joined { AreArrivals (machine_of table.now) false (lists_of joined.now) }
     requires small { steps + 1 < NONE }
@@ -216,7 +209,7 @@ fn first_level(
     distances: &mut Vec<u32>,
 ) -> Result<Vec<Pair>, OutOfMemory>
     requires lawful { IsMachine (machine_of table.now) }
-    requires few { (machine_of table.now).count ≤ MOST_POINTS }
+    requires few { (machine_of table.now).count ≤ most_size }
     requires whole { IsWhole (machine_of table.now) distances.old.items }
     requires none { (a b : ℕ) (d : Bool) → a < (machine_of table.now).count → b < (machine_of table.now).count →
         steps_at distances.old.items a b d ≡ NONE }
@@ -253,7 +246,7 @@ fn first_level(
 /// The distances of a machine that is written out.
 pub(crate) fn distances_of(alloc: Global, table: &Table) -> Result<Vec<u32>, OutOfMemory>
     requires lawful { IsMachine (machine_of table.now) }
-    requires few { (machine_of table.now).count ≤ MOST_POINTS }
+    requires few { (machine_of table.now).count ≤ most_size }
     ensures exact { IfOk result
         (λ ds. IsExact (machine_of table.now) ((machine_of table.now).count) NONE ds.items) }
     ensures whole { IfOk result (λ ds. IsWhole (machine_of table.now) ds.items) }

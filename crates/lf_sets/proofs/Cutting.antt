@@ -9,7 +9,8 @@ use Rattle.std.proofs.lemmas.List.{take-append-drop, drop-drop, append-nil}
 use Rattle.lf_core.specs.declared.marked.Move.{Move}
 use Rattle.lf_core.specs.Marked.{Machine, IsMachine, IsWholeRun, stop}
 use Rattle.lf_sets.specs.declared.forest.Node.{Node}
-use Rattle.lf_sets.specs.Reached.{IsLedTo, IsEndingRun, ArePoints, AreReached}
+use Rattle.lf_core.specs.Runs.{RunsToEnd}
+use Rattle.lf_sets.specs.Reached.{IsLedTo, ArePoints, AreReached}
 use Rattle.lf_sets.specs.Forests.{point_at, HasPoint, IsTraced}
 use Rattle.lf_sets.proofs.Runs.{led_join, led_cut, led_below, whole_led}
 use Rattle.lf_sets.proofs.Levels.{trail_leads}
@@ -62,5 +63,5 @@ no_whole m line block points first nodes level run is are traced none whole =
     none p (level_has m points block nodes level p traced led) whole.1
 
 -- the run over the last block
-pub last_ends : (m : Machine) (line block : List ℕ) (first p : ℕ) (run : List Move) → block ≡ drop first line → IsEndingRun m p (block ++ []) run → IsEndingRun m p (drop first line) run
-last_ends m line block first p run is h = subst (λ (bs : List ℕ). IsEndingRun m p bs run) (append-nil block ∙ is) h
+pub last_ends : (m : Machine) (line block : List ℕ) (first p : ℕ) (run : List Move) → block ≡ drop first line → RunsToEnd m p (block ++ []) run → RunsToEnd m p (drop first line) run
+last_ends m line block first p run is h = subst (λ (bs : List ℕ). RunsToEnd m p bs run) (append-nil block ∙ is) h

@@ -1,15 +1,17 @@
 -- Levels of nodes that grow.
-use Rattle.std.proofs.Common.{◌≡◌, ℕ, ◌+◌, ◌<◌, ◌≤◌, inl, inr, List, [], ◌∷◌, ◌++◌, length, get_or, take, drop, reverse, refl, sym, ap, ◌∙◌, subst, arith, zero, suc}
+use Rattle.std.proofs.Common.{◌≡◌, ◌≢◌, ℕ, ◌+◌, ◌<◌, ◌≤◌, inl, inr, List, [], ◌∷◌, ◌++◌, length, get_or, set, take, drop, reverse, refl, sym, ap, ◌∙◌, subst, arith, zero, suc, length-append}
 use Rattle.std.specs.List.{Contains}
 use Rattle.std.proofs.Math.Numerals.{add-one}
 use Rattle.std.proofs.lemmas.Bool.{cases_lt}
-use Rattle.std.proofs.lemmas.List.{take_more, drop_more, reverse-append}
+use Rattle.std.proofs.lemmas.List.{take_more, drop_more, reverse-append, get_or_append_left, get_or-set_same, get_or-set_other}
+use Rattle.std.proofs.Math.Seq.{get_or-append_seam}
 use Rattle.std.proofs.lemmas.List.Elements.{Contains-append_left, Contains-append_right, Contains-append_cases, Contains-get_or}
 use Rattle.lf_core.specs.declared.marked.Move.{Move}
 use Rattle.lf_core.specs.Marked.{Machine}
 use Rattle.lf_sets.specs.declared.forest.Node.{Node}
-use Rattle.lf_sets.specs.Reached.{IsLedTo, IsEndingRun}
-use Rattle.lf_sets.specs.Forests.{node_at, point_at, before_at, move_of, move_at, HasPoint, Keeps, Gains, GainsMoves, IsLed, GainsStep, IsTrail, IsTraced}
+use Rattle.lf_core.specs.Runs.{RunsToEnd}
+use Rattle.lf_sets.specs.Reached.{IsLedTo}
+use Rattle.lf_sets.specs.Forests.{no_node, node_at, point_at, before_at, move_of, move_at, HasPoint, IsNumbered, Keeps, Gains, GainsMoves, IsLed, GainsStep, IsTrail, IsTraced}
 use Rattle.lf_sets.proofs.Runs.{led_none, led_on, led_by}
 
 keeps_trans : (old mid new : List Node) → Keeps old mid → Keeps mid new → Keeps old new
@@ -20,6 +22,26 @@ keeps_trans old mid new h k = record {
 
 has_kept : (old new : List Node) (level p : ℕ) → Keeps old new → HasPoint old level p → HasPoint new level p
 has_kept old new level p keeps (place, from, lt, is) = (place, from, omega (arith, lt, keeps.longer), ap (λ (n : Node). n.point) (keeps.same place lt) ∙ is)
+
+-- where the number of a point tells, its node of the level stands
+pub numbered_at : (level : ℕ) (nodes : List Node) (places : List ℕ) (point place : ℕ) → IsNumbered level nodes places → get_or places point 0 ≡ place → HasPoint nodes level point → (level ≤ place) × (place < length nodes) × (point_at nodes place ≡ point)
+numbered_at level nodes places point place numbered at (q, from, lt, is) =
+    let e : place ≡ q = sym at ∙ subst (λ (p : ℕ). get_or places p 0 ≡ q) is (numbered q from lt) in
+    (omega (arith, from, e), omega (arith, lt, e), ap (point_at nodes) e ∙ is)
+
+-- a node of a point that the level doesn't have
+pub numbered_more : (level : ℕ) (nodes : List Node) (places : List ℕ) (node : Node) → IsNumbered level nodes places → node.point < length places → (HasPoint nodes level node.point → ⊥) → IsNumbered level (nodes ++ node ∷ []) (set places node.point (length nodes))
+numbered_more level nodes places node numbered low new place from lt =
+    elim (cases_lt place (length nodes)) [
+      | inl old ↦
+          let same : point_at (nodes ++ node ∷ []) place ≡ point_at nodes place = ap (λ (n : Node). n.point) (get_or_append_left nodes (node ∷ []) no_node place old) in
+          let other : point_at nodes place ≢ node.point = λ e. new (place, from, old, e) in
+          ap (λ (p : ℕ). get_or (set places node.point (length nodes)) p 0) same ∙ get_or-set_other places node.point (point_at nodes place) (length nodes) 0 other ∙ numbered place from old
+      | inr last ↦
+          let e : place ≡ length nodes = omega (arith, last, lt, length-append nodes (node ∷ [])) in
+          let same : point_at (nodes ++ node ∷ []) place ≡ node.point = ap (point_at (nodes ++ node ∷ [])) e ∙ ap (λ (n : Node). n.point) (get_or-append_seam nodes node [] no_node) in
+          ap (λ (p : ℕ). get_or (set places node.point (length nodes)) p 0) same ∙ get_or-set_same places node.point (length nodes) 0 low ∙ sym e
+    ]
 
 only_move : (x y : Move) → Contains (y ∷ []) x → y ≡ x
 only_move x y (zero, lt, is) = is
@@ -140,10 +162,10 @@ trail_step m points bytes nodes left place h =
     let k : IsTrail m points bytes nodes (suc left) place = subst (λ (n : ℕ). IsTrail m points bytes nodes n place) (add-one left) h in
     (k.1, k.2)
 
-pub walk_more : (m : Machine) (points bytes : List ℕ) (nodes : List Node) (left place : ℕ) (rest : List ℕ) (back new : List Move) → left < length bytes → IsTrail m points bytes nodes (left + 1) place → new ≡ back ++ move_at nodes place ∷ [] → IsEndingRun m (point_at nodes place) (drop (left + 1) bytes ++ rest) (reverse back) → IsEndingRun m (point_at nodes (before_at nodes place)) (drop left bytes ++ rest) (reverse new)
+pub walk_more : (m : Machine) (points bytes : List ℕ) (nodes : List Node) (left place : ℕ) (rest : List ℕ) (back new : List Move) → left < length bytes → IsTrail m points bytes nodes (left + 1) place → new ≡ back ++ move_at nodes place ∷ [] → RunsToEnd m (point_at nodes place) (drop (left + 1) bytes ++ rest) (reverse back) → RunsToEnd m (point_at nodes (before_at nodes place)) (drop left bytes ++ rest) (reverse new)
 walk_more m points bytes nodes left place rest back new lt trail is h =
     let turned : reverse new ≡ move_at nodes place ∷ reverse back = ap (λ (xs : List Move). reverse xs) is ∙ reverse-append back (move_at nodes place ∷ []) in
     let cut : drop left bytes ++ rest ≡ get_or bytes left 0 ∷ (drop (left + 1) bytes ++ rest) = ap (λ (bs : List ℕ). bs ++ rest) (drop_more bytes left 0 lt) in
-    subst (λ (bs : List ℕ). IsEndingRun m (point_at nodes (before_at nodes place)) bs (reverse new)) (sym cut)
-    (subst (λ (r : List Move). IsEndingRun m (point_at nodes (before_at nodes place)) (get_or bytes left 0 ∷ (drop (left + 1) bytes ++ rest)) r) (sym turned)
+    subst (λ (bs : List ℕ). RunsToEnd m (point_at nodes (before_at nodes place)) bs (reverse new)) (sym cut)
+    (subst (λ (r : List Move). RunsToEnd m (point_at nodes (before_at nodes place)) (get_or bytes left 0 ∷ (drop (left + 1) bytes ++ rest)) r) (sym turned)
     (((trail_step m points bytes nodes left place trail).0, h.0), h.1))

@@ -3,8 +3,10 @@ use Rattle.std.proofs.Common.{◌≡◌, ℕ, ◌<◌, List, [], ◌∷◌, ◌+
 use Rattle.std.specs.List.{Contains}
 use Rattle.lf_core.specs.declared.marked.Move.{Move}
 use Rattle.lf_core.specs.Marked.{Machine, IsMachine, IsRun, IsWholeRun, stop}
-use Rattle.lf_core.proofs.WrittenLaws.{stop_below}
-use Rattle.lf_sets.specs.Reached.{IsLedTo, IsEndingRun, ArePoints, AreReached}
+use Rattle.lf_core.specs.RunLaws.{stop_push}
+use Rattle.lf_core.specs.WrittenLaws.{stop_below}
+use Rattle.lf_core.specs.Runs.{RunsToEnd}
+use Rattle.lf_sets.specs.Reached.{IsLedTo, ArePoints, AreReached}
 
 pub only_one : (x y : ℕ) → Contains (y ∷ []) x → y ≡ x
 only_one x y (zero, lt, is) = is
@@ -19,10 +21,6 @@ run_push moves [] [] a b x r h = (h, tt)
 run_push moves [] (y ∷ ys) a b x r h = absurd r
 run_push moves (c ∷ cs) [] a b x r h = absurd r
 run_push moves (c ∷ cs) (y ∷ ys) a b x r h = (r.0, run_push moves cs ys y.to b x r.1 h)
-
-stop_push : (run : List Move) (a : ℕ) (x : Move) → stop a (run ++ x ∷ []) ≡ x.to
-stop_push [] a x = refl
-stop_push (y ∷ ys) a x = stop_push ys y.to x
 
 -- the last move of a run
 run_back : (moves : ℕ → ℕ → List Move) (line : List ℕ) (run : List Move) (a b : ℕ) → IsRun moves a (line ++ b ∷ []) run → (before : List Move) × IsRun moves a line before × (x : Move) × Contains (moves (stop a before) b) x × (x.to ≡ stop a run)
@@ -98,5 +96,5 @@ led_cut m xs ys points p are (from, h, run, r, e) =
 pub whole_led : (m : Machine) (line : List ℕ) (run : List Move) → IsWholeRun m line run → IsLedTo m (m.first ∷ []) line (stop m.first run)
 whole_led m line run h = (m.first, is_one m.first, run, h.0, refl)
 
-pub from_start : (m : Machine) (line : List ℕ) (p : ℕ) (run : List Move) → IsLedTo m (m.first ∷ []) [] p → IsEndingRun m p line run → IsWholeRun m line run
-from_start m line p run led h = subst (λ (q : ℕ). IsEndingRun m q line run) (sym (only_one p m.first (none_led m (m.first ∷ []) p led))) h
+pub from_start : (m : Machine) (line : List ℕ) (p : ℕ) (run : List Move) → IsLedTo m (m.first ∷ []) [] p → RunsToEnd m p line run → IsWholeRun m line run
+from_start m line p run led h = subst (λ (q : ℕ). RunsToEnd m q line run) (sym (only_one p m.first (none_led m (m.first ∷ []) p led))) h

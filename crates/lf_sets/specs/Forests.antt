@@ -1,5 +1,5 @@
 -- Nodes of points that moves led to, level by level.
-use Rattle.std.specs.Prelude.{◌≡◌, ℕ, zero, suc, ◌<◌, ◌≤◌, List, length, take, slice_index_or, Contains}
+use Rattle.std.specs.Prelude.{◌≡◌, ℕ, zero, suc, ◌<◌, ◌≤◌, List, length, take, slice_index, slice_index_or, Contains}
 use Rattle.lf_core.specs.declared.marked.Move.{Move}
 use Rattle.lf_core.specs.Marked.{Machine}
 use Rattle.lf_sets.specs.declared.forest.Node.{Node}
@@ -28,6 +28,11 @@ move_at nodes place = move_of (node_at nodes place)
 -- the level that begins at the place, and is the last, has the point
 abbrev pub HasPoint : List Node → ℕ → ℕ → Type 0
 HasPoint nodes level point = (place : ℕ) × (level ≤ place) × (place < length nodes) × (point_at nodes place ≡ point)
+
+-- each node of the level stands where the number of its point tells: so the level has no point twice
+abbrev pub IsNumbered : ℕ → List Node → List ℕ → Type 0
+IsNumbered level nodes places =
+    (place : ℕ) → level ≤ place → place < length nodes → slice_index places (point_at nodes place) ≡ place
 
 -- the nodes are just those of the points
 pub record IsPlanted (points : List ℕ) (nodes : List Node) : Type 0 where

@@ -1,5 +1,5 @@
 -- The points that bytes lead to.
-use Rattle.std.specs.Prelude.{◌≡◌, ℕ, ◌<◌, List, [], ◌∷◌, true, Contains}
+use Rattle.std.specs.Prelude.{◌≡◌, ℕ, ◌<◌, List, [], ◌∷◌, Contains}
 use Rattle.lf_core.specs.declared.marked.Move.{Move}
 use Rattle.lf_core.specs.Marked.{Machine, IsRun, stop}
 
@@ -7,10 +7,6 @@ use Rattle.lf_core.specs.Marked.{Machine, IsRun, stop}
 abbrev pub IsLedTo : Machine → List ℕ → List ℕ → ℕ → Type 0
 IsLedTo machine points bytes point =
     (from : ℕ) × Contains points from × (run : List Move) × IsRun machine.moves from bytes run × (stop from run ≡ point)
-
--- a run over the bytes from the point to an end
-abbrev pub IsEndingRun : Machine → ℕ → List ℕ → List Move → Type 0
-IsEndingRun machine point bytes run = IsRun machine.moves point bytes run × (machine.is_end (stop point run) ≡ true)
 
 -- each is a point of the machine
 abbrev pub ArePoints : Machine → List ℕ → Type 0

@@ -1,7 +1,7 @@
 //! The way back along the moves that led to a node.
 ghost use Rattle.std.specs.Prelude.{◌≡◌, ℕ, ◌<◌, ◌≤◌, ◌++◌, List, length, reverse, true, MatchOption, OnOk, IfOk, Contains};
 ghost use Rattle.lf_core.specs.Marked.{Machine};
-ghost use Rattle.lf_sets.specs.Reached.{IsEndingRun};
+ghost use Rattle.lf_core.specs.Runs.{RunsToEnd};
 ghost use Rattle.lf_sets.specs.Forests.{point_at, HasPoint, IsTrail};
 
 use crate::forest::Node;
@@ -51,8 +51,8 @@ pub(crate) fn walk_back<M: Marked>(
     requires { IsTrail (M.machine _m.now) points.now block.now nodes.now (length block.now) end }
     ensures from { IfOk result (λ p. Contains points.now p) }
     ensures ends { IfOk result (λ p. (rest : List ℕ) →
-        IsEndingRun (M.machine _m.now) (point_at nodes.now end) rest (reverse back.old.items) →
-        IsEndingRun (M.machine _m.now) p (block.now ++ rest) (reverse back.new.items)) }
+        RunsToEnd (M.machine _m.now) (point_at nodes.now end) rest (reverse back.old.items) →
+        RunsToEnd (M.machine _m.now) p (block.now ++ rest) (reverse back.new.items)) }
 {
     let mut at = end;
     for _k in 0..block.len() {

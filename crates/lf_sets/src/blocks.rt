@@ -1,7 +1,8 @@
 //! A line in blocks.
 ghost use Rattle.std.specs.Prelude.{◌≡◌, ℕ, ◌+◌, ◌*◌, ◌<◌, ◌≤◌, ◌++◌, List, length, take, drop, reverse, OnOk, IfOk, Contains, slice_index_or};
 ghost use Rattle.lf_core.specs.Marked.{Machine};
-ghost use Rattle.lf_sets.specs.Reached.{IsLedTo, IsEndingRun, ArePoints, AreReached};
+ghost use Rattle.lf_core.specs.Runs.{RunsToEnd};
+ghost use Rattle.lf_sets.specs.Reached.{IsLedTo, ArePoints, AreReached};
 
 use crate::backward::{point_place, walk_back};
 use crate::forward::Search;
@@ -63,8 +64,8 @@ pub(crate) fn back_over<M: Marked>(
     requires places { length search.old.forest.places.items ≡ (M.machine m.now).count }
     ensures from { IfOk result (λ p. Contains points.now p) }
     ensures ends { IfOk result (λ p. (rest : List ℕ) →
-        IsEndingRun (M.machine m.now) point rest (reverse back.old.items) →
-        IsEndingRun (M.machine m.now) p (block.now ++ rest) (reverse back.new.items)) }
+        RunsToEnd (M.machine m.now) point rest (reverse back.old.items) →
+        RunsToEnd (M.machine m.now) p (block.now ++ rest) (reverse back.new.items)) }
     ensures places { OnOk result (length search.new.forest.places.items ≡ (M.machine m.now).count) }
 {
     let level = search.trace(m, points, block)?;

@@ -1,6 +1,6 @@
 //! Points that moves led to, each with the way back.
-ghost use Rattle.std.specs.Prelude.{◌≡◌, ℕ, ◌<◌, ◌≤◌, length, true, All, OnOk, IfOk, slice_index_or};
-ghost use Rattle.lf_sets.specs.Forests.{point_at, HasPoint, Gains, GainsMoves, IsPlanted};
+ghost use Rattle.std.specs.Prelude.{◌≡◌, ◌<◌, ◌≤◌, ◌↔◌, length, All, OnOk, IfOk, IsTrue};
+ghost use Rattle.lf_sets.specs.Forests.{HasPoint, IsNumbered, Gains, GainsMoves, IsPlanted};
 
 use lf_core::{Move, OutOfMemory};
 use std::alloc::Global;
@@ -52,8 +52,9 @@ impl Forest {
 
     /// Whether the level that begins at the place has the point.
     fn has(&self, point: u32, level: usize) -> bool
-        requires { point < length self.now.places.items }
-        ensures { result ≡ true → HasPoint self.now.nodes.items level point }
+        requires point { point < length self.now.places.items }
+        requires numbered { IsNumbered level self.now.nodes.items self.now.places.items }
+        ensures { IsTrue result ↔ HasPoint self.now.nodes.items level point }
     {
         let place = self.places[point as usize];
         if place < level {
@@ -69,7 +70,9 @@ impl Forest {
     fn add(&mut self, node: Node, level: usize) -> Result<(), OutOfMemory>
         requires point { node.point < length self.old.places.items }
         requires level { level ≤ length self.old.nodes.items }
+        requires numbered { IsNumbered level self.old.nodes.items self.old.places.items }
         ensures gains { OnOk result (Gains level node self.old.nodes.items self.new.nodes.items) }
+        ensures numbered { OnOk result (IsNumbered level self.new.nodes.items self.new.places.items) }
         ensures places { OnOk result (length self.new.places.items ≡ length self.old.places.items) }
     {
         if self.has(node.point, level) {
@@ -89,7 +92,9 @@ impl Forest {
     ) -> Result<(), OutOfMemory>
         requires points { All (λ x. x.to < length self.old.places.items) moves.now }
         requires level { level ≤ length self.old.nodes.items }
+        requires numbered { IsNumbered level self.old.nodes.items self.old.places.items }
         ensures gains { OnOk result (GainsMoves level at moves.now self.old.nodes.items self.new.nodes.items) }
+        ensures numbered { OnOk result (IsNumbered level self.new.nodes.items self.new.places.items) }
         ensures places { OnOk result (length self.new.places.items ≡ length self.old.places.items) }
     {
         for step in moves {

@@ -2,7 +2,7 @@
 ghost use Rattle.std.specs.Prelude.{◌≡◌, ℕ, ◌+◌, ◌<◌, ◌≤◌, ◌↔◌, length, OnOk, IfOk, Contains};
 ghost use Rattle.lf_core.specs.Marked.{Machine, IsMachine};
 ghost use Rattle.lf_sets.specs.Reached.{ArePoints};
-ghost use Rattle.lf_sets.specs.Forests.{point_at, HasPoint, GainsStep, IsTraced};
+ghost use Rattle.lf_sets.specs.Forests.{point_at, HasPoint, IsNumbered, GainsStep, IsTraced};
 
 use crate::forest::Forest;
 use lf_core::{Marked, Move, OutOfMemory};
@@ -38,9 +38,11 @@ impl Search {
         requires at { at < length self.old.forest.nodes.items }
         requires point { point_at self.old.forest.nodes.items at < (M.machine m.now).count }
         requires level { level ≤ length self.old.forest.nodes.items }
+        requires numbered { IsNumbered level self.old.forest.nodes.items self.old.forest.places.items }
         requires places { length self.old.forest.places.items ≡ (M.machine m.now).count }
         ensures gains { OnOk result (GainsStep (M.machine m.now) byte level at (at + 1)
             self.old.forest.nodes.items self.new.forest.nodes.items) }
+        ensures numbered { OnOk result (IsNumbered level self.new.forest.nodes.items self.new.forest.places.items) }
         ensures places { OnOk result (length self.new.forest.places.items ≡ (M.machine m.now).count) }
     {
         let point = self.forest.nodes[at].point;
@@ -48,7 +50,7 @@ impl Search {
         self.forest.add_moves(at, level, self.moves.as_slice())
     }
 
-    /// Adds a level: the points to which the byte leads from the last level, which begins at the place.
+    /// Adds a level: the points to which the byte leads from the last level, which begins at the place. It has none twice.
     fn step<M: Marked>(&mut self, m: &M, byte: u8, last: usize) -> Result<(), OutOfMemory>
         requires last { last ≤ length self.old.forest.nodes.items }
         requires points { (place : ℕ) → last ≤ place → place < length self.old.forest.nodes.items →
@@ -56,6 +58,8 @@ impl Search {
         requires places { length self.old.forest.places.items ≡ (M.machine m.now).count }
         ensures gains { OnOk result (GainsStep (M.machine m.now) byte (length self.old.forest.nodes.items) last
             (length self.old.forest.nodes.items) self.old.forest.nodes.items self.new.forest.nodes.items) }
+        ensures numbered { OnOk result
+            (IsNumbered (length self.old.forest.nodes.items) self.new.forest.nodes.items self.new.forest.places.items) }
         ensures places { OnOk result (length self.new.forest.places.items ≡ (M.machine m.now).count) }
     {
         let level = self.forest.nodes.len();
@@ -76,6 +80,8 @@ impl Search {
         requires places { length self.old.forest.places.items ≡ (M.machine m.now).count }
         ensures traced { IfOk result (λ level. IsTraced (M.machine m.now) points.now block.now (length block.now)
             self.new.forest.nodes.items level) }
+        ensures numbered { IfOk result (λ level. 0 < length block.now →
+            IsNumbered level self.new.forest.nodes.items self.new.forest.places.items) }
         ensures places { OnOk result (length self.new.forest.places.items ≡ (M.machine m.now).count) }
     {
         self.forest.plant(points)?;

@@ -21,5 +21,5 @@ pub(crate) fn witness_of(alloc: Global, m: &SmallMachine) -> Result<Option<Witne
     if !pairs.ambiguous() {
         return Ok(None);
     }
-    Ok(Some(least(alloc, m, &pairs)?))
+    Ok(Some(least(alloc, &pairs)?))
 }

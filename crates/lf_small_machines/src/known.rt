@@ -100,7 +100,8 @@ fn witnesses_are_known(rt: HostRuntime) {
 /// Whether the fork's least line that begins with the byte is the known one, with its least run, or there is none.
 fn begins(alloc: Global, first: u8, known: Option<(&[u8], &[u32])>) -> Result<bool, OutOfMemory> {
     let m = fork(alloc, true)?;
-    let Some(headed) = least_from(alloc, &m, first)? else {
+    let pairs = pairs_of(alloc, &m)?;
+    let Some(headed) = least_from(alloc, &pairs, first)? else {
         return Ok(known.is_none());
     };
     match known {
@@ -256,7 +257,8 @@ fn same_end<A: Marked, B: Marked>(a: &A, b: &B, point: u32) -> bool {
 /// The full machine, written out.
 fn written_out(alloc: Global) -> Result<Written<SmallMachine>, OutOfMemory> {
     let m = full_machine(alloc)?;
-    Written::of(alloc, m)
+    let table = Table::of(alloc, &m)?;
+    Ok(Written::new(m, table))
 }
 
 #[test]

@@ -51,7 +51,8 @@ fn agrees_from(
     letter: u8,
 ) -> Result<bool, OutOfMemory> {
     let found = first_word(alloc, m, words, &[letter], 1)?;
-    let Some(headed) = least_from(alloc, m, letter)? else {
+    let pairs = pairs_of(alloc, m)?;
+    let Some(headed) = least_from(alloc, &pairs, letter)? else {
         return Ok(found.is_none());
     };
     let Some(found) = found else {

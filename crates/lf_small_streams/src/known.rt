@@ -4,7 +4,8 @@ ghost use Rattle.lf_stream.specs.Standing.{is_finished};
 
 use crate::feeding::feed;
 use lf_core::{Bytes, OutOfMemory};
-use lf_stream::{Batch, Body, LEAST_ROOM, LINE, Lines, Mark, Numbered, Sort};
+use lf_limits::{LEAST_ROOM, MOST_LINE_BYTES};
+use lf_stream::{Batch, Body, Lines, Mark, Numbered, Sort};
 use std::alloc::Global;
 
 /// Appends the number's last digit, the sort, and the bytes of a line that is to be read.
@@ -118,11 +119,25 @@ fn is_batch(batch: &Batch<'_>, sort: Sort, len: usize) -> bool {
 #[test]
 fn long_lines_are_marked(rt: HostRuntime) {
     let cases: [(bool, &[u8], usize, &str, Sort, usize); 7] = [
-        (false, b"x", LINE - 1, "\n", Sort::Line, LINE),
-        (false, b"x", LINE, "\n", Sort::Long, 0),
-        (false, b"x", LINE - 1, "\r\n", Sort::Long, 0),
-        (true, b"x", LINE - 1, "\r\n", Sort::Line, LINE),
-        (true, b"x", LINE, "\r\n", Sort::Long, 0),
+        (
+            false,
+            b"x",
+            MOST_LINE_BYTES - 1,
+            "\n",
+            Sort::Line,
+            MOST_LINE_BYTES,
+        ),
+        (false, b"x", MOST_LINE_BYTES, "\n", Sort::Long, 0),
+        (false, b"x", MOST_LINE_BYTES - 1, "\r\n", Sort::Long, 0),
+        (
+            true,
+            b"x",
+            MOST_LINE_BYTES - 1,
+            "\r\n",
+            Sort::Line,
+            MOST_LINE_BYTES,
+        ),
+        (true, b"x", MOST_LINE_BYTES, "\r\n", Sort::Long, 0),
         (true, b"#", 2_000_000, "\r\n", Sort::Note, 0),
         (true, b"x", 2_000_000, "\n", Sort::Long, 0),
     ];

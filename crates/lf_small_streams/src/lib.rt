@@ -1,6 +1,8 @@
-//! Tests alone: the lines of streams, beside the definition and beside known answers.
+//! Tests alone: sources, sinks and the lines of streams, beside the definition and beside known answers.
 #![tactic(auto)]
 
+#[cfg(test)]
+mod ends;
 #[cfg(test)]
 mod feeding;
 #[cfg(test)]

@@ -1,24 +1,11 @@
 //! The lines of a text, by the definition.
-ghost use Rattle.std.specs.Prelude.{◌≡◌, ◌++◌, ◌∷◌, [], ◌≤◌, IfOk, OnOk, take, length};
+
+ghost use Rattle.std.specs.Prelude.{◌≡◌, ◌++◌, ◌∷◌, [], IfOk, OnOk};
 ghost use Rattle.lf_stream.specs.Cut.{HasNoFeed, line_of, lines_of};
 
 use lf_core::{Bytes, OutOfMemory};
+use lf_stream::line_len;
 use std::alloc::Global;
-
-/// How many bytes of the line stand before its end.
-fn len_of(notes: bool, line: &[u8]) -> usize
-    ensures front { take result line.now ≡ line_of notes line.now }
-    ensures within { result ≤ length line.now }
-{
-    if !notes {
-        return line.len();
-    }
-    match line.split_last() {
-        None => 0,
-        Some((last, front)) if *last == b'\r' => front.len(),
-        Some(_) => line.len(),
-    }
-}
 
 /// Appends a line without its end.
 fn push_line(
@@ -30,7 +17,7 @@ fn push_line(
     ensures { OnOk result (into.new.items ≡ into.old.items ++ line_of notes line.now ∷ []) }
 {
     let mut copy = Bytes::new(alloc);
-    copy.extend(line.split_at(len_of(notes, line)).0)?;
+    copy.extend(line.split_at(line_len(notes, line)).0)?;
     into.push(copy)?;
     Ok(())
 }

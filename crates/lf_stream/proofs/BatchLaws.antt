@@ -4,7 +4,7 @@ use Rattle.std.specs.Prelude.{slice_get, slice_set}
 use Rattle.std.proofs.lemmas.Bool.{cases_lt}
 use Rattle.std.proofs.lemmas.List.{take_more_set, length-take-le}
 use Rattle.std.proofs.lemmas.Option.{slice_get_within}
-use Rattle.lf_stream.specs.declared.limits.TheConstants.{MOST_MARKS, LEAST_ROOM}
+use Rattle.lf_limits.specs.Limits.{least_room, most_marks}
 use Rattle.lf_stream.specs.declared.lines.Lines.{Lines}
 use Rattle.lf_stream.specs.declared.marks.Mark.{Mark}
 use Rattle.lf_stream.specs.Cut.{known_lines}
@@ -85,9 +85,9 @@ marked_more old now mid new count mark e h low m bytes marks next text set =
     }
 
 -- There was no further line.
-pub marked_all : (old now : Lines) (count : ℕ) (text : List ℕ) → Marked old now count → count < MOST_MARKS
+pub marked_all : (old now : Lines) (count : ℕ) (text : List ℕ) → Marked old now count → count < most_marks
     → ((stream : List ℕ) (n : ℕ) → Stands now stream n → IsNextMark now.notes text (known_lines now.finished now.notes stream) n None)
-    → (stream : List ℕ) (n : ℕ) → Stands old stream n → count ≡ min (length (known_lines old.finished old.notes stream) - n) MOST_MARKS
+    → (stream : List ℕ) (n : ℕ) → Stands old stream n → count ≡ min (length (known_lines old.finished old.notes stream) - n) most_marks
 marked_all old now count text h low none stream n s =
     let is : length (known_lines old.finished old.notes stream) ≡ n + count = next_of old now stream count text (n + count) None h.moves (none stream (n + count) (h.moves.stands stream n s)) in
     omega (arith, is, low)
@@ -102,9 +102,9 @@ marked_text old now count text marks h same are stream n s =
 -- What the caller sees of the marks that were taken.
 pub record Seen (old new : Lines) (taken : ℕ) (marks : List Mark) : Type 0 where
   pub moves : MovesOn old new (length marks)
-  pub room : marks ≡ [] → LEAST_ROOM ≤ room_of new
+  pub room : marks ≡ [] → least_room ≤ room_of new
 
-pub seen : (old new : Lines) (taken : ℕ) (marks : List Mark) → MovesOn old new taken → (taken ≡ 0 → LEAST_ROOM ≤ room_of new) → marks ≡ take taken new.marks.items → taken ≤ MOST_MARKS → Seen old new taken marks
+pub seen : (old new : Lines) (taken : ℕ) (marks : List Mark) → MovesOn old new taken → (taken ≡ 0 → least_room ≤ room_of new) → marks ≡ take taken new.marks.items → taken ≤ most_marks → Seen old new taken marks
 seen old new taken marks m room are few =
     let many : taken ≡ length marks = sym (ap length are ∙ length-take-le taken new.marks.items (omega (arith, new.room_for_marks, few))) in
     record {

@@ -3,7 +3,7 @@ use Rattle.std.proofs.Common.{◌≡◌, ◌≢◌, ℕ, ◌+◌, ◌<◌, ◌�
 use Rattle.std.proofs.lemmas.Bool.{lt-ltb, ltb-true}
 use Rattle.std.proofs.lemmas.List.{append-nil}
 use Rattle.std.specs.Prelude.{ltb}
-use Rattle.lf_stream.specs.declared.limits.TheConstants.{LINE}
+use Rattle.lf_limits.specs.Limits.{most_line_bytes}
 use Rattle.lf_stream.specs.declared.marks.Sort.{Sort}
 use Rattle.lf_stream.specs.declared.marks.Sort.TheVariants.{Line, Note, Long}
 use Rattle.lf_stream.specs.Cut.{without_cr, line_of, HasNoFeed}
@@ -26,11 +26,11 @@ note_of : (notes : Bool) (b c : ℕ) (bs : List ℕ) → is_note notes (line_of 
 note_of false b c bs = refl
 note_of true b c bs = refl
 
-sort_by : (notes : Bool) (line : List ℕ) → LINE < length line → sort_of notes line ≡ cond (is_note notes line) Note Long
-sort_by notes line many = ap (λ t. cond (is_note notes line) Note (cond t Long Line)) (lt-ltb LINE (length line) many)
+sort_by : (notes : Bool) (line : List ℕ) → most_line_bytes < length line → sort_of notes line ≡ cond (is_note notes line) Note Long
+sort_by notes line many = ap (λ t. cond (is_note notes line) Note (cond t Long Line)) (lt-ltb most_line_bytes (length line) many)
 
 -- Enough bytes settle the sort of a line.
-pub sort_settled : (notes : Bool) (dropped bytes : List ℕ) → LINE + 1 < length dropped → sort_of notes (line_of notes (dropped ++ bytes)) ≡ sort_of notes dropped
+pub sort_settled : (notes : Bool) (dropped bytes : List ℕ) → most_line_bytes + 1 < length dropped → sort_of notes (line_of notes (dropped ++ bytes)) ≡ sort_of notes dropped
 sort_settled notes [] bytes many = absurd (omega arith)
 sort_settled notes (b ∷ []) bytes many = absurd (omega arith)
 sort_settled notes (b ∷ c ∷ bs) bytes many =
@@ -40,7 +40,7 @@ sort_settled notes (b ∷ c ∷ bs) bytes many =
     ∙ sym (sort_by notes (b ∷ c ∷ bs) (omega arith))
 
 -- And so do more.
-pub sort_grown : (notes : Bool) (dropped bytes : List ℕ) → LINE + 1 < length dropped → sort_of notes (dropped ++ bytes) ≡ sort_of notes dropped
+pub sort_grown : (notes : Bool) (dropped bytes : List ℕ) → most_line_bytes + 1 < length dropped → sort_of notes (dropped ++ bytes) ≡ sort_of notes dropped
 sort_grown notes [] bytes many = absurd (omega arith)
 sort_grown notes (b ∷ bs) bytes many =
     sort_by notes (b ∷ (bs ++ bytes)) (omega (arith, length-append bs bytes)) ∙ sym (sort_by notes (b ∷ bs) (omega arith))
@@ -107,18 +107,18 @@ holds_dropped notes Note bytes rest other none h = drops_all notes Note bytes re
 holds_dropped notes Long bytes rest other none h = drops_all notes Long bytes rest none h
 
 -- Bytes that are too many for a line are dropped.
-pub holds_first_dropped : (notes : Bool) (sort : Sort) (bytes : List ℕ) → sort ≢ Line → LINE + 1 < length bytes → HasNoFeed bytes → sort ≡ sort_of notes bytes → Holds notes sort [] bytes
+pub holds_first_dropped : (notes : Bool) (sort : Sort) (bytes : List ℕ) → sort ≢ Line → most_line_bytes + 1 < length bytes → HasNoFeed bytes → sort ≡ sort_of notes bytes → Holds notes sort [] bytes
 holds_first_dropped notes Line bytes other many none is = absurd (other refl)
 holds_first_dropped notes Note bytes other many none is = record { dropped = bytes; joined = sym (append-nil bytes); unended = none; many = many; sort_is = is }
 holds_first_dropped notes Long bytes other many none is = record { dropped = bytes; joined = sym (append-nil bytes); unended = none; many = many; sort_is = is }
 
-settles : (t : Bool) (notes : Bool) (bytes rest : List ℕ) → ltb (LINE + 1) (length bytes) ≡ t → cond t (sort_of notes bytes) Line ≢ Line → HasNoFeed bytes → bytes ≡ rest → Holds notes (cond t (sort_of notes bytes) Line) [] rest
+settles : (t : Bool) (notes : Bool) (bytes rest : List ℕ) → ltb (most_line_bytes + 1) (length bytes) ≡ t → cond t (sort_of notes bytes) Line ≢ Line → HasNoFeed bytes → bytes ≡ rest → Holds notes (cond t (sort_of notes bytes) Line) [] rest
 settles false notes bytes rest e other none h = absurd (other refl)
 settles true notes bytes rest e other none h =
-    subst (Holds notes (sort_of notes bytes) []) h (holds_first_dropped notes (sort_of notes bytes) bytes other (ltb-true (LINE + 1) (length bytes) e) none refl)
+    subst (Holds notes (sort_of notes bytes) []) h (holds_first_dropped notes (sort_of notes bytes) bytes other (ltb-true (most_line_bytes + 1) (length bytes) e) none refl)
 
 -- Once a sort other than Line is settled, nothing of the line is held.
 pub holds_by : (notes : Bool) (sort : Sort) (bytes rest : List ℕ) → settled_by notes sort bytes ≢ Line → HasNoFeed bytes → Holds notes sort bytes rest → Holds notes (settled_by notes sort bytes) [] rest
-holds_by notes Line bytes rest other none h = settles (ltb (LINE + 1) (length bytes)) notes bytes rest refl other none h
+holds_by notes Line bytes rest other none h = settles (ltb (most_line_bytes + 1) (length bytes)) notes bytes rest refl other none h
 holds_by notes Note bytes rest other none h = holds_dropped notes Note bytes rest other none h
 holds_by notes Long bytes rest other none h = holds_dropped notes Long bytes rest other none h

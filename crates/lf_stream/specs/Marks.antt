@@ -5,7 +5,7 @@ use Rattle.lf_stream.specs.declared.marks.Mark.{Mark}
 use Rattle.lf_stream.specs.declared.marks.Body.{Body}
 use Rattle.lf_stream.specs.declared.marks.Body.TheVariants as body
 use Rattle.lf_stream.specs.declared.marks.Numbered.{Numbered}
-use Rattle.lf_stream.specs.declared.limits.TheConstants.{MOST_MARKS}
+use Rattle.lf_limits.specs.Limits.{most_marks}
 use Rattle.lf_stream.specs.Sorts.{sort_of}
 
 -- The bytes from this place on are the line.
@@ -39,7 +39,7 @@ IsNextMark notes text lines n (Some next) = (line : List ℕ) × (slice_get line
 abbrev pub AreNextMarks : Bool → List ℕ → List (List ℕ) → ℕ → List Mark → Type 0
 AreNextMarks notes text lines n marks = (k : ℕ) → k < length marks → IsNextMark notes text lines (n + k) (slice_get marks k)
 
--- The lines after the first n are marked in the text, all of them, or MOST_MARKS where there are more.
+-- The lines after the first n are marked in the text, all of them, or `most_marks` where there are more.
 pub record IsMarked (notes : Bool) (lines : List (List ℕ)) (n : ℕ) (text : List ℕ) (marks : List Mark) : Type 0 where
-  pub count : length marks ≡ min (length lines - n) MOST_MARKS
+  pub count : length marks ≡ min (length lines - n) most_marks
   pub marked : AreNextMarks notes text lines n marks

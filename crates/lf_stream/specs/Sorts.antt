@@ -1,6 +1,6 @@
 -- What a line is.
 use Rattle.std.specs.Prelude.{◌≡◌, ℕ, ◌+◌, ◌<◌, ltb, Bool, false, ◌&&◌, ◌==◌, cond, List, [], ◌∷◌, ◌++◌, length}
-use Rattle.lf_stream.specs.declared.limits.TheConstants.{LINE}
+use Rattle.lf_limits.specs.Limits.{most_line_bytes}
 use Rattle.lf_stream.specs.declared.marks.Sort.{Sort}
 use Rattle.lf_stream.specs.declared.marks.Sort.TheVariants.{Line, Note, Long}
 use Rattle.lf_stream.specs.Cut.{HasNoFeed}
@@ -10,9 +10,9 @@ abbrev pub is_note : Bool → List ℕ → Bool
 is_note notes [] = false
 is_note notes (b ∷ bs) = notes && b == 35
 
--- A line is a note, or long where it has more than LINE bytes, or else a line to be read.
+-- A line is a note, or long where it has more than `most_line_bytes` bytes, or else a line to be read.
 abbrev pub sort_of : Bool → List ℕ → Sort
-sort_of notes line = cond (is_note notes line) Note (cond (ltb LINE (length line)) Long Line)
+sort_of notes line = cond (is_note notes line) Note (cond (ltb most_line_bytes (length line)) Long Line)
 
 -- How many bytes were dropped at least, by the sort of the line that they belong to.
 abbrev pub least_dropped : Sort → ℕ
@@ -25,7 +25,7 @@ pub record Drops (notes : Bool) (sort : Sort) (bytes rest : List ℕ) : Type 0 w
   pub dropped : List ℕ
   pub joined : rest ≡ dropped ++ bytes
   pub unended : HasNoFeed dropped
-  pub many : LINE + 1 < length dropped
+  pub many : most_line_bytes + 1 < length dropped
   pub sort_is : sort ≡ sort_of notes dropped
 
 -- What is held of the rest of a stream: all of its bytes, or those after the ones that were dropped.

@@ -1,6 +1,6 @@
 -- How far the lines of a stream are given.
 use Rattle.std.specs.Prelude.{◌≡◌, ℕ, ◌+◌, ◌-◌, ◌≤◌, ltb, cond, Bool, true, false, List, [], ◌++◌, Option, Some, None, length}
-use Rattle.lf_stream.specs.declared.limits.TheConstants.{BUFFER, LEAST_ROOM, LINE}
+use Rattle.lf_limits.specs.Limits.{buffer_bytes, least_room, most_line_bytes}
 use Rattle.lf_stream.specs.declared.lines.Lines.{Lines}
 use Rattle.lf_stream.specs.declared.marks.Sort.{Sort}
 use Rattle.lf_stream.specs.declared.marks.Sort.TheVariants as sort
@@ -27,7 +27,7 @@ bytes_fed l = l.fed
 
 -- how many bytes may be fed
 abbrev pub room_of : Lines → ℕ
-room_of l = BUFFER - l.buffer.end
+room_of l = buffer_bytes - l.buffer.end
 
 -- The first lines are those given, and the others are those of the rest.
 pub record Continues (stream : List ℕ) (given : List (List ℕ)) (rest : List ℕ) : Type 0 where
@@ -79,7 +79,7 @@ pub record MovesOn (old new : Lines) (taken : ℕ) : Type 0 where
 
 -- The sort of the first line that is held, where so many bytes of it have come that they aren't kept, or else Line.
 abbrev pub settled_by : Bool → Sort → List ℕ → Sort
-settled_by notes sort.Line bytes = cond (ltb (LINE + 1) (length bytes)) (sort_of notes bytes) sort.Line
+settled_by notes sort.Line bytes = cond (ltb (most_line_bytes + 1) (length bytes)) (sort_of notes bytes) sort.Line
 settled_by notes sort.Note bytes = sort.Note
 settled_by notes sort.Long bytes = sort.Long
 
@@ -88,7 +88,7 @@ settled_sort l = settled_by l.notes l.front (held_bytes l.buffer)
 
 -- Where there was no line, there is much room.
 abbrev pub HasRoomAtNone : {X : Type 0} → Option X → Lines → Type 0
-HasRoomAtNone None l = LEAST_ROOM ≤ room_of l
+HasRoomAtNone None l = least_room ≤ room_of l
 HasRoomAtNone (Some x) l = Unit {0}
 
 -- Once the borrow ends, the stream has moved on by the line that was given, if any.
@@ -97,4 +97,4 @@ RestsOn l next = Rests the_row l (λ new. MovesOn l.now new (one_if_some next) �
 
 -- Once the borrow ends, the stream has moved on by the lines of the batch.
 abbrev pub RestsBatch : MutBor Lines → Batch → Fml
-RestsBatch l batch = Rests the_row l (λ new. MovesOn l.now new (length batch.marks.now) × (batch.marks.now ≡ [] → LEAST_ROOM ≤ room_of new))
+RestsBatch l batch = Rests the_row l (λ new. MovesOn l.now new (length batch.marks.now) × (batch.marks.now ≡ [] → least_room ≤ room_of new))

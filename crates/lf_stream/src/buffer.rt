@@ -1,10 +1,11 @@
 //! The bytes that are held.
+
 ghost use Rattle.std.specs.Prelude.{◌≡◌, ◌≤◌, ◌+◌, ◌-◌, ◌<◌, ◌∷◌, ◌++◌, [], MatchOption, IfOk, length, slice_range};
 ghost use Rattle.lf_stream.specs.Cut.{HasNoFeed};
-ghost use Rattle.lf_stream.specs.declared.limits.TheConstants.{BUFFER};
+ghost use Rattle.lf_limits.specs.Limits.{buffer_bytes, least_room};
 
-use crate::limits::{BUFFER, LEAST_ROOM};
 use lf_core::OutOfMemory;
+use lf_limits::{BUFFER_BYTES, LEAST_ROOM};
 use memchr::memchr;
 use std::alloc::Global;
 
@@ -15,10 +16,10 @@ pub(crate) struct Buffer {
     pub(crate) start: usize,
     scanned: usize,
     pub(crate) end: usize,
-    ghost whole: { length bytes.items ≡ BUFFER },
+    ghost whole: { length bytes.items ≡ buffer_bytes },
     ghost from: { start ≤ scanned },
     ghost to: { scanned ≤ end },
-    ghost within: { end ≤ BUFFER },
+    ghost within: { end ≤ buffer_bytes },
     ghost clean: { HasNoFeed (slice_range bytes.items start scanned) },
 }
 
@@ -29,7 +30,7 @@ impl Buffer {
         ensures { IfOk result (λ b. (b.start ≡ 0) × (b.end ≡ 0)) }
     {
         Ok(Buffer {
-            bytes: vec![in alloc; 0u8; BUFFER]?,
+            bytes: vec![in alloc; 0u8; BUFFER_BYTES]?,
             start: 0,
             scanned: 0,
             end: 0,
@@ -38,7 +39,7 @@ impl Buffer {
 
     /// Holds these bytes behind the others.
     pub(crate) fn append(&mut self, piece: &[u8])
-        requires { self.old.end + length piece.now ≤ BUFFER }
+        requires { self.old.end + length piece.now ≤ buffer_bytes }
         ensures bytes { held_bytes self.new ≡ held_bytes self.old ++ piece.now }
         ensures start { self.new.start ≡ self.old.start }
         ensures end { self.new.end ≡ self.old.end + length piece.now }
@@ -75,13 +76,13 @@ impl Buffer {
 
     /// Moves the bytes to the front where little room is left behind them.
     pub(crate) fn settle(&mut self)
-        requires { self.old.end - self.old.start + LEAST_ROOM ≤ BUFFER }
+        requires { self.old.end - self.old.start + least_room ≤ buffer_bytes }
         ensures bytes { held_bytes self.new ≡ held_bytes self.old }
-        ensures room { self.new.end + LEAST_ROOM ≤ BUFFER }
+        ensures room { self.new.end + least_room ≤ buffer_bytes }
         ensures shift { self.new.start + self.old.end ≡ self.old.start + self.new.end }
         ensures less { self.new.end ≤ self.old.end }
     {
-        if self.end > BUFFER - LEAST_ROOM {
+        if self.end > BUFFER_BYTES - LEAST_ROOM {
             self.bytes.copy_within(self.start..self.end, 0);
             self.end -= self.start;
             self.scanned = 0;

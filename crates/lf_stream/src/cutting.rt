@@ -1,14 +1,16 @@
 //! What a line is, once its end is known.
+
 ghost use Rattle.std.specs.Prelude.{◌≡◌, ◌≤◌, ◌+◌, List, ℕ, ◌++◌, length, take};
+ghost use Rattle.lf_limits.specs.Limits.{buffer_bytes};
 ghost use Rattle.lf_stream.specs.Cut.{line_of};
 ghost use Rattle.lf_stream.specs.Sorts.{sort_of, Holds};
 ghost use Rattle.lf_stream.specs.Marks.{IsMark};
 
-use crate::limits::{BUFFER, LINE};
 use crate::marks::{Mark, Sort};
+use lf_limits::MOST_LINE_BYTES;
 
-/// How many bytes of the line stand before its end.
-pub(crate) fn line_len(notes: bool, line: &[u8]) -> usize
+/// How many bytes of the line stand before its end: all but a last carriage return where the stream may have notes.
+pub fn line_len(notes: bool, line: &[u8]) -> usize
     ensures front { take result line.now ≡ line_of notes line.now }
     ensures within { result ≤ length line.now }
 {
@@ -29,7 +31,7 @@ pub(crate) fn sort(notes: bool, line: &[u8]) -> Sort
     if notes && line.first() == Some(&b'#') {
         return Sort::Note;
     }
-    if line.len() > LINE {
+    if line.len() > MOST_LINE_BYTES {
         return Sort::Long;
     }
     Sort::Line
@@ -37,7 +39,7 @@ pub(crate) fn sort(notes: bool, line: &[u8]) -> Sort
 
 /// The mark of a line that is held whole from this place on.
 fn line_mark(number: u64, notes: bool, line: &[u8], start: usize) -> Mark
-    requires { start ≤ BUFFER }
+    requires { start ≤ buffer_bytes }
     ensures number { result.number ≡ number }
     ensures within { result.start + result.len ≤ start + length line.now }
     ensures mark { (before after : List ℕ) → length before ≡ start → IsMark notes (before ++ line.now ++ after) (line_of notes line.now) result }
@@ -61,7 +63,7 @@ fn line_mark(number: u64, notes: bool, line: &[u8], start: usize) -> Mark
 
 /// The mark of a line, of which these bytes are held from this place on.
 pub(crate) fn mark(number: u64, notes: bool, front: Sort, bytes: &[u8], start: usize) -> Mark
-    requires { start ≤ BUFFER }
+    requires { start ≤ buffer_bytes }
     ensures number { result.number ≡ number }
     ensures within { result.start + result.len ≤ start + length bytes.now }
     ensures mark { (before after line : List ℕ) → length before ≡ start → Holds notes front bytes.now line

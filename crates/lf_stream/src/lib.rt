@@ -3,10 +3,9 @@
 
 mod buffer;
 mod cutting;
-mod limits;
 mod lines;
 mod marks;
 
-pub use limits::{LEAST_ROOM, LINE, MOST_FED, MOST_MARKS};
+pub use cutting::line_len;
 pub use lines::Lines;
 pub use marks::{Batch, Body, Mark, Numbered, Sort};

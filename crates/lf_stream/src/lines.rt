@@ -1,14 +1,15 @@
 //! The lines of a stream.
+
 ghost use Rattle.std.specs.Prelude.{◌≡◌, ◌≤◌, ◌+◌, ◌-◌, ◌<◌, ℕ, min, take, List, [], ◌++◌, false, true, length, IfOk, IfNone, IfSome, IsTrue, ◌↔◌, slice_range};
 ghost use Rattle.std.specs.Borrow.{sem};
 ghost use Rattle.lf_stream.specs.Sorts.{least_dropped};
-ghost use Rattle.lf_stream.specs.declared.limits.TheConstants.{MOST_FED, MOST_MARKS};
+ghost use Rattle.lf_limits.specs.Limits.{buffer_bytes, least_room, most_line_bytes, most_marks, most_run_bytes};
 
 use crate::buffer::Buffer;
 use crate::cutting::{mark, sort};
-use crate::limits::{BUFFER, LEAST_ROOM, LINE, MOST_FED, MOST_MARKS};
 use crate::marks::{Batch, Body, Mark, Numbered, Sort};
 use lf_core::OutOfMemory;
+use lf_limits::{BUFFER_BYTES, MOST_LINE_BYTES, MOST_MARKS};
 use std::alloc::Global;
 
 /// A place for a mark.
@@ -30,8 +31,8 @@ pub struct Lines {
     front: Sort,
     buffer: Buffer,
     marks: Vec<Mark>,
-    ghost room_for_marks: { length marks.items ≡ MOST_MARKS },
-    ghost most: { fed ≤ MOST_FED },
+    ghost room_for_marks: { length marks.items ≡ most_marks },
+    ghost most: { fed ≤ most_run_bytes },
     ghost counted: { given + least_dropped front + buffer.end ≤ fed + buffer.start },
 }
 
@@ -47,7 +48,7 @@ impl Lines {
         ensures stands { IfOk result (λ lines. Stands lines [] 0) }
         ensures notes { IfOk result (λ lines. has_notes lines ≡ notes) }
         ensures open { IfOk result (λ lines. is_finished lines ≡ false) }
-        ensures room { IfOk result (λ lines. LEAST_ROOM ≤ room_of lines) }
+        ensures room { IfOk result (λ lines. least_room ≤ room_of lines) }
     {
         Ok(Lines {
             notes,
@@ -71,14 +72,14 @@ impl Lines {
     pub fn room(&self) -> usize
         ensures { result ≡ room_of self.now }
     {
-        BUFFER - self.buffer.end
+        BUFFER_BYTES - self.buffer.end
     }
 
     /// The next bytes of the stream.
     pub fn feed(&mut self, piece: &[u8])
         requires open { is_finished self.old ≡ false }
         requires room { length piece.now ≤ room_of self.old }
-        requires most { bytes_fed self.old + length piece.now ≤ MOST_FED }
+        requires most { bytes_fed self.old + length piece.now ≤ most_run_bytes }
         ensures stands { (stream : List ℕ) (n : ℕ) → Stands self.old stream n → Stands self.new (stream ++ piece.now) n }
         ensures same { SameStream self.old self.new }
         ensures fed { bytes_fed self.new ≡ bytes_fed self.old + length piece.now }
@@ -107,7 +108,7 @@ impl Lines {
         requires some { self.old.buffer.start + 1 ≤ next + least_dropped self.old.front }
         ensures taken { HasTaken self.old self.new next }
         ensures number { result.number ≡ self.old.given + 1 }
-        ensures within { result.start + result.len ≤ BUFFER }
+        ensures within { result.start + result.len ≤ buffer_bytes }
         ensures mark { (line : List ℕ) → Holds self.old.notes self.old.front (slice_range self.old.buffer.bytes.items self.old.buffer.start to) line
             → IsMark self.old.notes self.old.buffer.bytes.items (line_of self.old.notes line) result }
     {
@@ -140,7 +141,7 @@ impl Lines {
         ensures next { (stream : List ℕ) (n : ℕ) → Stands self.old stream n → IsNextMark self.old.notes
             self.new.buffer.bytes.items (known_lines self.old.finished self.old.notes stream) n result }
         ensures moves { MovesOn self.old self.new (one_if_some result) }
-        ensures within { IfSome result (λ mark. mark.start + mark.len ≤ BUFFER) }
+        ensures within { IfSome result (λ mark. mark.start + mark.len ≤ buffer_bytes) }
         ensures none { IfNone result (HasNoFeed (held_bytes self.new.buffer)) }
         ensures kept { (self.new.buffer.bytes ≡ self.old.buffer.bytes) × (self.new.marks ≡ self.old.marks) }
     {
@@ -164,7 +165,7 @@ impl Lines {
         match self.front {
             Sort::Line => {
                 let bytes = &self.buffer.bytes[self.buffer.start..self.buffer.end];
-                if bytes.len() > LINE + 1 {
+                if bytes.len() > MOST_LINE_BYTES + 1 {
                     sort(self.notes, bytes)
                 } else {
                     Sort::Line
@@ -178,7 +179,7 @@ impl Lines {
     fn drop_front(&mut self)
         requires { HasNoFeed (held_bytes self.old.buffer) }
         ensures moves { MovesOn self.old self.new 0 }
-        ensures few { self.new.buffer.end ≤ self.new.buffer.start + LINE + 1 }
+        ensures few { self.new.buffer.end ≤ self.new.buffer.start + most_line_bytes + 1 }
     {
         let front = self.settled();
         match front {
@@ -195,7 +196,7 @@ impl Lines {
     fn make_room(&mut self)
         requires { HasNoFeed (held_bytes self.old.buffer) }
         ensures moves { MovesOn self.old self.new 0 }
-        ensures room { LEAST_ROOM ≤ room_of self.new }
+        ensures room { least_room ≤ room_of self.new }
     {
         self.drop_front();
         self.buffer.settle();
@@ -203,7 +204,7 @@ impl Lines {
 
     /// What a mark tells, with the bytes.
     fn body(&self, mark: &Mark) -> Body<'_>
-        requires { mark.now.start + mark.now.len ≤ BUFFER }
+        requires { mark.now.start + mark.now.len ≤ buffer_bytes }
         ensures { (line : List ℕ) → IsMark self.now.notes self.now.buffer.bytes.items line mark.now → IsBody self.now.notes line result }
     {
         match mark.sort {
@@ -235,12 +236,12 @@ impl Lines {
     /// Marks the next lines, as many as there are marks or lines.
     fn mark_lines(&mut self) -> usize
         ensures moves { MovesOn self.old self.new result }
-        ensures none { result < MOST_MARKS → HasNoFeed (held_bytes self.new.buffer) }
-        ensures few { result ≤ MOST_MARKS }
+        ensures none { result < most_marks → HasNoFeed (held_bytes self.new.buffer) }
+        ensures few { result ≤ most_marks }
         ensures marked { (stream : List ℕ) (n : ℕ) → Stands self.old stream n → AreNextMarks self.old.notes
             self.new.buffer.bytes.items (known_lines self.old.finished self.old.notes stream) n (take result self.new.marks.items) }
         ensures all { (stream : List ℕ) (n : ℕ) → Stands self.old stream n →
-            result ≡ min (length (known_lines self.old.finished self.old.notes stream) - n) MOST_MARKS }
+            result ≡ min (length (known_lines self.old.finished self.old.notes stream) - n) most_marks }
     {
         for count in 0..MOST_MARKS {
             let Some(mark) = self.advance() else {
@@ -254,10 +255,10 @@ impl Lines {
     /// Marks the next lines, and makes room where there is none.
     fn take_lines(&mut self) -> usize
         ensures moves { MovesOn self.old self.new result }
-        ensures few { result ≤ MOST_MARKS }
+        ensures few { result ≤ most_marks }
         ensures lines { (stream : List ℕ) (n : ℕ) → Stands self.old stream n → IsMarked (has_notes self.old)
             (known_lines (is_finished self.old) (has_notes self.old) stream) n self.new.buffer.bytes.items (take result self.new.marks.items) }
-        ensures room { result ≡ 0 → LEAST_ROOM ≤ room_of self.new }
+        ensures room { result ≡ 0 → least_room ≤ room_of self.new }
     {
         let count = self.mark_lines();
         if count == 0 {
@@ -269,7 +270,7 @@ impl Lines {
 
     /// The text and the first marks.
     fn marked(&self, count: usize) -> Batch<'_>
-        requires { count ≤ MOST_MARKS }
+        requires { count ≤ most_marks }
         ensures { (result.text.now ≡ self.now.buffer.bytes.items) × (result.marks.now ≡ take count self.now.marks.items) }
     {
         Batch {
@@ -278,7 +279,7 @@ impl Lines {
         }
     }
 
-    /// The next lines, as many as are held whole, but at most MOST_MARKS.
+    /// The next lines, as many as are held whole, but at most `MOST_MARKS`.
     pub fn batch(&mut self) -> Batch<'_>
         ensures lines { (stream : List ℕ) (n : ℕ) → Stands self.old stream n → IsMarked (has_notes self.old)
             (known_lines (is_finished self.old) (has_notes self.old) stream) n result.text.now result.marks.now }

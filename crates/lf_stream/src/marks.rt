@@ -1,3 +1,5 @@
+//! What is said of a line.
+
 /// What a line is: one to be read, a note, or one that is too long.
 #[derive(Clone, Copy, Debug, PartialEq, Eq)]
 pub enum Sort {

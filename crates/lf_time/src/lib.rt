@@ -19,6 +19,3 @@ pub use iso_offset::IsoOffset;
 pub use json_time::JsonTime;
 pub use w3c_clock::W3cClock;
 pub use w3c_date::W3cDate;
-
-#[cfg(test)]
-mod tests;

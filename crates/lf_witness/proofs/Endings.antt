@@ -4,7 +4,7 @@ use Rattle.std.specs.List.{Contains}
 use Rattle.std.proofs.lemmas.List.{drop_more}
 use Rattle.lf_core.specs.declared.marked.Move.{Move}
 use Rattle.lf_core.specs.Marked.{Machine, IsMachine, IsRun, stop}
-use Rattle.lf_core.proofs.WrittenLaws.{move_stays}
+use Rattle.lf_core.specs.WrittenLaws.{move_stays}
 use Rattle.lf_witness.specs.Sets.{CanEnd, AreBefore, AreEnding}
 
 pub end_from_none : (m : Machine) (p : ℕ) → CanEnd m [] p → m.is_end p ≡ true
@@ -27,17 +27,6 @@ ending_before m c cs after set lawful are b = record {
   reach = λ p lt h. let l = b.leads p lt h in end_by m c cs p l.0 l.1 (are.reach l.0.to (move_stays m p c l.0 lawful lt l.1) l.2);
   all = λ p lt h. let e = end_on m c cs p h in b.all p lt (e.0, e.1, are.all e.0.to (move_stays m p c e.0 lawful lt e.1) e.2);
 }
-
--- one move more
-pub run_push : (moves : ℕ → ℕ → List Move) (line : List ℕ) (run : List Move) (a p b : ℕ) (x : Move) → IsRun moves a line run → stop a run ≡ p → Contains (moves p b) x → IsRun moves a (line ++ b ∷ []) (run ++ x ∷ [])
-run_push moves [] [] a p b x r e h = (subst (λ (q : ℕ). Contains (moves q b) x) (sym e) h, tt)
-run_push moves [] (y ∷ ys) a p b x r e h = absurd r
-run_push moves (c ∷ cs) [] a p b x r e h = absurd r
-run_push moves (c ∷ cs) (y ∷ ys) a p b x r e h = (r.0, run_push moves cs ys y.to p b x r.1 e h)
-
-pub stop_push : (run : List Move) (a : ℕ) (x : Move) → stop a (run ++ x ∷ []) ≡ x.to
-stop_push [] a x = refl
-stop_push (y ∷ ys) a x = stop_push ys y.to x
 
 -- one set more
 pub sets_more : (m : Machine) (line : List ℕ) (k : ℕ) (after set : List Bool) → IsMachine m → k < length line → AreEnding m (drop (length line - k) line) after → AreBefore m (get_or line (length line - 1 - k) 0) after set → AreEnding m (drop (length line - (k + 1)) line) set

@@ -4,12 +4,13 @@ use Rattle.std.specs.List.{Contains}
 use Rattle.std.proofs.lemmas.Bool.{cases_lt}
 use Rattle.lf_core.specs.declared.marked.Move.{Move}
 use Rattle.lf_core.specs.Marked.{Machine, IsMachine, IsRun, IsWholeRun}
-use Rattle.lf_core.proofs.WrittenLaws.{move_stays}
+use Rattle.lf_core.specs.WrittenLaws.{move_stays}
 use Rattle.lf_product.specs.Distance.{Suffices, IsAmbiguous}
-use Rattle.lf_product.proofs.RunPairs.{two_runs_from_steps, steps_from_two_runs}
+use Rattle.lf_product.proofs.RunPairs.{shares_from_two, two_from_shares, suffices_from_shares, shares_from_suffices}
 use Rattle.lf_product.proofs.Deciding.{Decided, some_listed}
 use Rattle.lf_product.proofs.Ambiguity.{byte_low, steps-decided}
-use Rattle.lf_witness.specs.Shared.{IsShared, LineLe}
+use Rattle.lf_core.specs.Runs.{IsShared}
+use Rattle.lf_product.specs.Walk.{LineLe}
 use Rattle.lf_witness.specs.Heads.{IsLeastHeaded, HasNoHeaded}
 use Rattle.lf_witness.specs.Least.{HasLeast}
 use Rattle.lf_witness.proofs.RunChoice.{Any, any-decided, least_among, least_runs_on, shared-decided}
@@ -21,8 +22,8 @@ run_bytes m p (c ∷ cs) [] lawful low h = absurd h
 run_bytes m p (c ∷ cs) (x ∷ run) lawful low h = (byte_low m p c x lawful low h.0, run_bytes m x.to cs run lawful (move_stays m p c x lawful low h.0) h.1)
 
 pub least_there : (m : Machine) → IsMachine m → IsAmbiguous m → HasLeast m
-least_there m lawful (line, left, right, h, k, n) =
-    let l = least_line (IsShared m) line (shared-decided m) (λ other s. run_bytes m m.first other s.0 lawful lawful.begins s.2.0) (left, right, h, k, n) in
+least_there m lawful (line, shared) =
+    let l = least_line (IsShared m) line (shared-decided m) (λ other s. run_bytes m m.first other s.0 lawful lawful.begins s.2.0) shared in
     elim (least_runs_on m l.line) [
       | inl (first, second, are) ↦ record {
         line = l.line;
@@ -80,13 +81,14 @@ none_headed : (m : Machine) (c : ℕ) → IsMachine m → (((x : Move) × Contai
 none_headed m c lawful none other [] h = absurd h.0
 none_headed m c lawful none other (x ∷ run) h =
     let low : x.to < m.count = move_stays m m.first c x lawful lawful.begins h.0.0 in
-    none (x, h.0.0, (low, (length other, steps_from_two_runs m other run run x.to x.to true (h.0.1, h.1) (h.0.1, h.1) (inl refl))))
+    none (x, h.0.0, (low, (length other, suffices_from_shares m other x.to x.to true (shares_from_two m other run run x.to x.to true (h.0.1, h.1) (h.0.1, h.1) (inl refl)))))
 
 pub headed_or_none : (m : Machine) → IsMachine m → (c : ℕ) → HasHeaded m c ⊎ HasNoHeaded m c
 headed_or_none m lawful c =
     elim (some_listed (m.moves m.first c) (λ (x : Move). Ends m x.to) (λ x. ends-decided m x.to lawful)) [
       | inl (x, listed, (low, (k, h))) ↦
-          let t = two_runs_from_steps m k x.to x.to true h in
-          inl (headed_there m c t.bytes lawful (x ∷ t.left, ((listed, t.runs_left.0), t.runs_left.1)))
+          let way = shares_from_suffices m k x.to x.to true h in
+          let t = two_from_shares m way.0 x.to x.to true way.2 in
+          inl (headed_there m c way.0 lawful (x ∷ t.left, ((listed, t.runs_left.0), t.runs_left.1)))
       | inr none ↦ inr (none_headed m c lawful none)
     ]

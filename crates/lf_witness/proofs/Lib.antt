@@ -1,13 +1,10 @@
-pub mod Shares
-pub mod LineSteps
-pub mod SameLines
 pub mod Endings
 pub mod OpenLaws
 pub mod RunSteps
 pub mod SetLaws
 pub mod SecondLaws
-pub mod StepLaws
 pub mod HeadLaws
 pub mod RunChoice
 pub mod LineChoice
 pub mod Existence
+pub mod LeastLaws

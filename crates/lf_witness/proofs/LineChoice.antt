@@ -2,7 +2,7 @@
 use Rattle.std.proofs.Common.{◌≡◌, ℕ, zero, suc, ◌<◌, ◌⊎◌, inl, inr, List, [], ◌∷◌, length, refl, sym, subst, arith}
 use Rattle.std.proofs.lemmas.Bool.{cases_lt}
 use Rattle.lf_product.proofs.Deciding.{Decided, FirstBelow, first_below}
-use Rattle.lf_witness.specs.Shared.{NotAbove, LineLe}
+use Rattle.lf_product.specs.Walk.{NotAbove, LineLe}
 
 -- each is below 256
 abbrev pub AreBytes : List ℕ → Type 0

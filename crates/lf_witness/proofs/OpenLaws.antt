@@ -3,7 +3,7 @@ use Rattle.std.proofs.Common.{◌≡◌, ◌⊎◌, inl, inr, Bool, List, [], �
 use Rattle.std.specs.Prelude.{Contains, IfSome}
 use Rattle.std.proofs.lemmas.List.Elements.{Contains-push_cases, Contains-append_left, Contains-append_right}
 use Rattle.lf_core.specs.declared.marked.Move.{Move}
-use Rattle.lf_witness.specs.Runs.{MoveLt, MoveLe}
+use Rattle.lf_core.specs.Runs.{MoveLt, MoveLe}
 use Rattle.lf_witness.specs.Open.{IsOpen, IsLeast, IsLeastOpen}
 
 move_lt_trans : (x y z : Move) → MoveLt x y → MoveLt y z → MoveLt x z

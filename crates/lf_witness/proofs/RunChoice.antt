@@ -5,11 +5,11 @@ use Rattle.std.proofs.lemmas.Bool.{cases_lt}
 use Rattle.lf_core.specs.declared.marked.Move.{Move}
 use Rattle.lf_core.specs.Marked.{Machine}
 use Rattle.lf_product.proofs.Deciding.{Decided, bool-decided, not-decided, contains_cases, contains_first, contains_later}
-use Rattle.lf_witness.specs.Runs.{RunsToEnd, MoveLe, RunLe, AreLeastRuns}
-use Rattle.lf_witness.specs.Shared.{IsShared}
+use Rattle.lf_core.specs.Runs.{RunsToEnd, MoveLe, RunLe, IsShared}
+use Rattle.lf_core.specs.RunLaws.{move_is, run_cases, run_le-none, run_le-cons}
+use Rattle.lf_witness.specs.Runs.{AreLeastRuns}
 use Rattle.lf_product.proofs.Sweep.{contains_none}
 use Rattle.lf_witness.proofs.OpenLaws.{move_le_trans}
-use Rattle.lf_product.proofs.RunPairs.{move_is, move_cases}
 
 by_point : (x y : Move) → x.mark ≡ y.mark → MoveLe x y ⊎ MoveLe y x
 by_point x y e =
@@ -109,8 +109,8 @@ cons_least : (m : Machine) (p c : ℕ) (cs : List ℕ) (P : List Move → Type 0
 cons_least m p c cs P rest first [] r q = absurd r.0
 cons_least m p c cs P rest first (y ∷ o) r q =
     elim (first.least y r.0.0 (there m p c cs P y o (rest y) r q)) [
-      | inl lt ↦ inl lt
-      | inr e ↦ inr (e, first.holds.least o (subst (λ (w : Move). RunsToEnd m w.to cs o) (sym e) (r.0.1, r.1)) (subst (λ (w : Move). P (w ∷ o)) (sym e) q))
+      | inl lt ↦ inl (inl lt)
+      | inr e ↦ run_le-cons first.x y first.holds.run o e (first.holds.least o (subst (λ (w : Move). RunsToEnd m w.to cs o) (sym e) (r.0.1, r.1)) (subst (λ (w : Move). P (w ∷ o)) (sym e) q))
     ]
 
 none_cons : (m : Machine) (p c : ℕ) (cs : List ℕ) (P : List Move → Type 0) → ((x : Move) → After m cs P x ⊎ NotAfter m cs P x) → ((y : Move) → Contains (m.moves p c) y → After m cs P y → ⊥) → NoneAmong m p (c ∷ cs) P
@@ -118,7 +118,7 @@ none_cons m p c cs P rest none [] r q = absurd r.0
 none_cons m p c cs P rest none (y ∷ o) r q = none y r.0.0 (there m p c cs P y o (rest y) r q)
 
 least_at_end : (m : Machine) (p : ℕ) (P : List Move → Type 0) → Decided (m.is_end p ≡ true) → Decided (P []) → LeastAmong m p [] P ⊎ NoneAmong m p [] P
-least_at_end m p P (inl e) (inl h) = inl (record { run = []; runs = (tt, e); holds = h; least = λ other r q. tt })
+least_at_end m p P (inl e) (inl h) = inl (record { run = []; runs = (tt, e); holds = h; least = λ other r q. run_le-none other })
 least_at_end m p P (inl e) (inr never) = inr (none_at_end m p P (λ f q. never q))
 least_at_end m p P (inr never) h = inr (none_at_end m p P (λ f q. never f))
 
@@ -145,26 +145,16 @@ Any run = Unit {0}
 pub any-decided : (run : List Move) → Decided (Any run)
 any-decided run = inl tt
 
-run_is-decided : (xs ys : List Move) → Decided (xs ≡ ys)
-run_is-decided [] [] = inl refl
-run_is-decided [] (y ∷ ys) = inr (λ e. cc)
-run_is-decided (x ∷ xs) [] = inr (λ e. cc)
-run_is-decided (x ∷ xs) (y ∷ ys) =
-    elim (move_cases x y) [
-      | inl e ↦ elim (run_is-decided xs ys) [ inl f ↦ inl (ap (λ (z : Move). z ∷ xs) e ∙ ap (λ (zs : List Move). y ∷ zs) f) | inr n ↦ inr (λ f. n (cc)) ]
-      | inr n ↦ inr (λ f. n (cc))
-    ]
-
 other_of : (m : Machine) (line : List ℕ) (run : List Move) → NoneAmong m m.first line (λ (o : List Move). o ≢ run) → IsShared m line → ⊥
 other_of m line run none (left, right, h, k, n) =
-    elim (run_is-decided left run) [ inl e ↦ none right k (λ f. n (e ∙ sym f)) | inr differs ↦ none left h differs ]
+    elim (run_cases left run) [ inl e ↦ none right k (λ f. n (e ∙ sym f)) | inr differs ↦ none left h differs ]
 
 -- two least runs stand on the line, or it isn't shared
 pub least_runs_on : (m : Machine) (line : List ℕ) → ((left : List Move) × (right : List Move) × AreLeastRuns m line left right) ⊎ (IsShared m line → ⊥)
 least_runs_on m line =
     elim (least_among m line m.first Any any-decided) [
       | inl l ↦
-          elim (least_among m line m.first (λ (run : List Move). run ≢ l.run) (λ run. not-decided (run_is-decided run l.run))) [
+          elim (least_among m line m.first (λ (run : List Move). run ≢ l.run) (λ run. not-decided (run_cases run l.run))) [
             | inl r ↦ inl (
               l.run,
               r.run,

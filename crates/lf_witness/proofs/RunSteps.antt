@@ -4,8 +4,10 @@ use Rattle.std.specs.Prelude.{Contains}
 use Rattle.std.proofs.lemmas.List.{append-nil, drop_more, drop_all}
 use Rattle.lf_core.specs.declared.marked.Move.{Move}
 use Rattle.lf_core.specs.Marked.{Machine, IsMachine}
-use Rattle.lf_core.proofs.WrittenLaws.{move_stays}
-use Rattle.lf_witness.specs.Runs.{RunsToEnd, RunLe, IsLeastRun}
+use Rattle.lf_core.specs.RunLaws.{run_le-none, run_le-cons}
+use Rattle.lf_core.specs.WrittenLaws.{move_stays}
+use Rattle.lf_core.specs.Runs.{RunsToEnd, RunLe}
+use Rattle.lf_witness.specs.Runs.{IsLeastRun}
 use Rattle.lf_witness.specs.Sets.{CanEnd, AreEnding}
 use Rattle.lf_witness.specs.Open.{IsOpen, IsLeast}
 use Rattle.lf_witness.proofs.Endings.{end_on, end_from_none}
@@ -31,8 +33,8 @@ least_cons m p c cs after x tail lawful low are first rest = record {
     below [] runs = absurd runs.0
     below (y ∷ o) runs =
         elim (first.least y runs.0.0 (opens_by m p c cs after None y o lawful low are runs (λ e. cc))) [
-          | inl lt ↦ inl lt
-          | inr e ↦ inr (e, rest.least o (tail_runs m p c cs x y o e runs))
+          | inl lt ↦ inl (inl lt)
+          | inr e ↦ run_le-cons x y tail o e (rest.least o (tail_runs m p c cs x y o e runs))
         ]
 
 -- The run grew by moves after which the least run completes it to the least.
@@ -70,5 +72,5 @@ pub extends_all : (m : Machine) (start : ℕ) (line : List ℕ) (i : ℕ) (old r
 extends_all m start line i old run point all e =
     let none : drop i line ≡ [] = drop_all i line all in
     let ends : m.is_end point ≡ true = end_from_none m point (subst (λ (bs : List ℕ). CanEnd m bs point) none e.can) in
-    let last : IsLeastRun m point (drop i line) [] = subst (λ (bs : List ℕ). IsLeastRun m point bs []) (sym none) (record { runs = (tt, ends); least = λ other h. tt }) in
+    let last : IsLeastRun m point (drop i line) [] = subst (λ (bs : List ℕ). IsLeastRun m point bs []) (sym none) (record { runs = (tt, ends); least = λ other h. run_le-none other }) in
     (e.taken, e.grown, subst (λ (zs : List Move). IsLeastRun m start line zs) (append-nil e.taken) (e.least [] last))

@@ -4,20 +4,15 @@ use Rattle.std.specs.Prelude.{Contains, All}
 use Rattle.std.proofs.lemmas.List.{drop_more, take_more, drop_all}
 use Rattle.lf_core.specs.declared.marked.Move.{Move}
 use Rattle.lf_core.specs.Marked.{Machine, IsMachine, IsRun, stop, no_move}
-use Rattle.lf_core.proofs.WrittenLaws.{move_stays}
-use Rattle.lf_product.proofs.RunPairs.{move_cases}
-use Rattle.lf_witness.specs.Runs.{RunsToEnd, RunLe, MoveLt, IsLeastRun, IsSecondRun, IsOnlyRun}
+use Rattle.lf_core.specs.WrittenLaws.{move_stays}
+use Rattle.lf_core.specs.Runs.{RunsToEnd, MoveLt, RunLe, IsShared}
+use Rattle.lf_core.specs.RunLaws.{move_cases, stop_push, run_is, run_le-cons, run_le-tail, run_le-first}
+use Rattle.lf_witness.specs.Runs.{IsLeastRun, IsSecondRun, IsOnlyRun}
 use Rattle.lf_witness.specs.Sets.{AreEnding}
 use Rattle.lf_witness.specs.Open.{IsOpen, IsLeast, IsLeastOpen}
-use Rattle.lf_witness.specs.Shared.{IsShared}
 use Rattle.lf_witness.specs.declared.second.Branch.{Branch}
 use Rattle.lf_witness.specs.Branch.{IsBranch, OnlyFrom, IsOtherMove}
-use Rattle.lf_witness.proofs.Endings.{stop_push}
 use Rattle.lf_witness.proofs.RunSteps.{opens_by, tail_runs}
-
-not_less : (x y : Move) → x ≡ y → MoveLt x y → ⊥
-not_less x y e (inl lt) = absurd (let same = ap (λ (z : Move). z.mark) e in omega (arith, lt, same))
-not_less x y e (inr both) = absurd (let same = ap (λ (z : Move). z.to) e in omega (arith, both.1, same))
 
 pub only_none : (m : Machine) (p : ℕ) → IsOnlyRun m p [] []
 only_none m p [] runs = refl
@@ -28,7 +23,7 @@ pub only_more : (m : Machine) (p c : ℕ) (cs : List ℕ) (x : Move) (l : List M
 only_more m p c cs x l after lawful low are none only [] runs = absurd runs.0
 only_more m p c cs x l after lawful low are none only (y ∷ o) runs =
     elim (move_cases x y) [
-      | inl e ↦ ap (λ (z : Move). z ∷ o) (sym e) ∙ ap (λ (zs : List Move). x ∷ zs) (only o (tail_runs m p c cs x y o e runs))
+      | inl e ↦ run_is y x o l (sym e) (only o (tail_runs m p c cs x y o e runs))
       | inr n ↦ absurd (none y runs.0.0 (opens_by m p c cs after (Some x) y o lawful low are runs (λ e. n (cc))))
     ]
 
@@ -44,18 +39,18 @@ second_here m p c cs x l after step tail lawful low are first only rest = record
     below [] runs differs = absurd runs.0
     below (y ∷ o) runs differs =
         elim (move_cases x y) [
-          | inl e ↦ absurd (differs (ap (λ (z : Move). z ∷ o) (sym e) ∙ ap (λ (zs : List Move). x ∷ zs) (only o (tail_runs m p c cs x y o e runs))))
+          | inl e ↦ absurd (differs (run_is y x o l (sym e) (only o (tail_runs m p c cs x y o e runs))))
           | inr n ↦
               elim (first.least y runs.0.0 (opens_by m p c cs after (Some x) y o lawful low are runs (λ e. n (cc)))) [
-                | inl lt ↦ inl lt
-                | inr e ↦ inr (e, rest.least o (tail_runs m p c cs step y o e runs))
+                | inl lt ↦ inl (inl lt)
+                | inr e ↦ run_le-cons step y tail o e (rest.least o (tail_runs m p c cs step y o e runs))
               ]
         ]
 
 least_tail : (m : Machine) (p c : ℕ) (cs : List ℕ) (x : Move) (l : List Move) → IsLeastRun m p (c ∷ cs) (x ∷ l) → IsLeastRun m x.to cs l
 least_tail m p c cs x l h = record {
   runs = (h.runs.0.1, h.runs.1);
-  least = λ o runs. elim (h.least (x ∷ o) ((h.runs.0.0, runs.0), runs.1)) [ inl lt ↦ absurd (not_less x x refl lt) | inr both ↦ both.1 ];
+  least = λ o runs. run_le-tail x l o (h.least (x ∷ o) ((h.runs.0.0, runs.0), runs.1));
 }
 
 second_cons : (m : Machine) (p c : ℕ) (cs : List ℕ) (x : Move) (l t : List Move) → IsLeastRun m p (c ∷ cs) (x ∷ l) → IsSecondRun m x.to cs l t → IsSecondRun m p (c ∷ cs) (x ∷ l) (x ∷ t)
@@ -68,9 +63,9 @@ second_cons m p c cs x l t h s = record {
     below : (other : List Move) → RunsToEnd m p (c ∷ cs) other → other ≢ (x ∷ l) → RunLe (x ∷ t) other
     below [] runs differs = absurd runs.0
     below (y ∷ o) runs differs =
-        elim (h.least (y ∷ o) runs) [
-          | inl lt ↦ inl lt
-          | inr both ↦ inr (both.0, s.least o (tail_runs m p c cs x y o both.0 runs) (λ e. differs (ap (λ (z : Move). z ∷ o) (sym both.0) ∙ ap (λ (zs : List Move). x ∷ zs) e)))
+        elim (run_le-first x y l o (h.least (y ∷ o) runs)) [
+          | inl lt ↦ inl (inl lt)
+          | inr both ↦ run_le-cons x y t o both.0 (s.least o (tail_runs m p c cs x y o both.0 runs) (λ e. differs (run_is y x o l (sym both.0) e)))
         ]
 
 -- What is second least from a place of the least run on is so from its start.

@@ -2,7 +2,7 @@ pub mod Runs
 pub mod Sets
 pub mod Open
 pub mod Branch
-pub mod Steps
 pub mod Shared
 pub mod Heads
 pub mod Least
+pub mod WrittenLeast

@@ -1,7 +1,7 @@
 -- The moves by which a run goes on.
 use Rattle.std.specs.Prelude.{◌≡◌, List, Bool, true, Option, None, Some, Contains}
 use Rattle.lf_core.specs.declared.marked.Move.{Move}
-use Rattle.lf_witness.specs.Runs.{MoveLe}
+use Rattle.lf_core.specs.Runs.{MoveLe}
 use Rattle.lf_witness.specs.Sets.{has_point}
 
 -- the move leads into the set, and isn't the one that is left out

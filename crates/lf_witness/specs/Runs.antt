@@ -1,25 +1,8 @@
--- Runs in the order of their marks.
-use Rattle.std.specs.Prelude.{◌≡◌, ◌≢◌, ℕ, ◌<◌, ◌⊎◌, List, [], ◌∷◌, true}
+-- The least runs on a line, in the order of their marks.
+use Rattle.std.specs.Prelude.{◌≡◌, ◌≢◌, ℕ, List}
 use Rattle.lf_core.specs.declared.marked.Move.{Move}
-use Rattle.lf_core.specs.Marked.{Machine, IsRun, stop}
-
--- a run from the point that stops at an end
-abbrev pub RunsToEnd : Machine → ℕ → List ℕ → List Move → Type 0
-RunsToEnd m p line run = IsRun m.moves p line run × (m.is_end (stop p run) ≡ true)
-
--- the move has the lesser mark, or the same and leads to the lesser point
-abbrev pub MoveLt : Move → Move → Type 0
-MoveLt x y = (x.mark < y.mark) ⊎ ((x.mark ≡ y.mark) × (x.to < y.to))
-
--- the move is less, or the same
-abbrev pub MoveLe : Move → Move → Type 0
-MoveLe x y = MoveLt x y ⊎ (x ≡ y)
-
--- of two runs over one line, the first has the lesser move where they first differ, or they are the same
-abbrev pub RunLe : List Move → List Move → Type 0
-RunLe [] ys = Unit {0}
-RunLe (x ∷ xs) [] = ⊥
-RunLe (x ∷ xs) (y ∷ ys) = MoveLt x y ⊎ ((x ≡ y) × RunLe xs ys)
+use Rattle.lf_core.specs.Marked.{Machine}
+use Rattle.lf_core.specs.Runs.{RunsToEnd, RunLe}
 
 -- the least run over the line from the point to an end
 pub record IsLeastRun (m : Machine) (p : ℕ) (line : List ℕ) (run : List Move) : Type 0 where

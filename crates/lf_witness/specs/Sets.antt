@@ -3,7 +3,7 @@ use Rattle.std.specs.Prelude.{◌≡◌, ℕ, ◌+◌, ◌-◌, ◌<◌, ◌≤�
 use Rattle.std.specs.declared.alloc.Global.{Global}
 use Rattle.lf_core.specs.declared.marked.Move.{Move}
 use Rattle.lf_core.specs.Marked.{Machine}
-use Rattle.lf_witness.specs.Runs.{RunsToEnd}
+use Rattle.lf_core.specs.Runs.{RunsToEnd}
 
 -- some run over the bytes from the point stops at an end
 abbrev pub CanEnd : Machine → List ℕ → ℕ → Type 0

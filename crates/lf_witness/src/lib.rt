@@ -3,13 +3,9 @@
 
 mod heads;
 pub mod laws;
-mod line;
-mod onward;
-mod points;
 mod runs;
 mod second;
 mod sets;
-mod steps;
 mod witness;
 
 pub use heads::{Headed, least_from};

@@ -1,12 +1,14 @@
 //! The least run over a line.
 ghost use Rattle.std.specs.Prelude.{◌≡◌, ◌<◌, ◌≤◌, ◌⊎◌, ◌↔◌, ◌++◌, List, Some, All, IfSome, IsTrue, OnOk, length};
-ghost use Rattle.lf_witness.specs.Runs.{MoveLt, MoveLe, IsLeastRun};
+ghost use Rattle.lf_core.specs.Marked.{IsMachine};
+ghost use Rattle.lf_core.specs.Runs.{MoveLt, MoveLe};
+ghost use Rattle.lf_core.specs.Written.{machine_of};
+ghost use Rattle.lf_witness.specs.Runs.{IsLeastRun};
 ghost use Rattle.lf_witness.specs.Sets.{CanEnd, SetsFor};
 ghost use Rattle.lf_witness.specs.Open.{IsOpen, IsLeastOpen};
 
-use crate::onward::moves_of;
-use lf_core::{Marked, Move, OutOfMemory, Run};
-use std::alloc::Global;
+use lf_core::{Move, OutOfMemory, Run};
+use lf_written::Table;
 
 /// Whether the move is less.
 fn is_less(x: Move, y: Move) -> bool
@@ -54,23 +56,23 @@ pub(crate) fn least_open(moves: &[Move], after: &[bool], but: Option<Move>) -> O
 }
 
 /// Appends the least run over the line from the point to an end.
-pub(crate) fn extend_least<M: Marked>(
-    alloc: Global,
-    m: &M,
+pub(crate) fn extend_least(
+    table: &Table,
     line: &[u8],
     sets: &[Vec<bool>],
     start: u32,
     run: &mut Run,
 ) -> Result<(), OutOfMemory>
-    requires sets { SetsFor (M.machine m.now) line.now sets.now }
-    requires start { start < (M.machine m.now).count }
-    requires can { CanEnd (M.machine m.now) line.now start }
-    ensures { OnOk result ((more : List Move) × (run.new ≡ run.old ++ more) × IsLeastRun (M.machine m.now) start line.now more) }
+    requires lawful { IsMachine (machine_of table.now) }
+    requires sets { SetsFor (machine_of table.now) line.now sets.now }
+    requires start { start < (machine_of table.now).count }
+    requires can { CanEnd (machine_of table.now) line.now start }
+    ensures { OnOk result ((more : List Move) × (run.new ≡ run.old ++ more) × IsLeastRun (machine_of table.now) start line.now more) }
 {
     let mut point = start;
     for i in 0..line.len() {
-        let moves = moves_of(alloc, m, point, line[i])?;
-        let Some(step) = least_open(&moves, &sets[line.len() - 1 - i], None) else {
+        let moves = table.moves(point, line[i]);
+        let Some(step) = least_open(moves, &sets[line.len() - 1 - i], None) else {
             return Ok(());
         };
         run.push(step)?;

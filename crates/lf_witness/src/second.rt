@@ -1,14 +1,15 @@
 //! The second least run over a line.
 ghost use Rattle.std.specs.Prelude.{◌≡◌, ◌+◌, ◌<◌, ◌≤◌, IfOk, length, take};
-ghost use Rattle.lf_core.specs.Marked.{stop};
-ghost use Rattle.lf_witness.specs.Shared.{IsShared};
+ghost use Rattle.lf_core.specs.Marked.{IsMachine, stop};
+ghost use Rattle.lf_core.specs.Runs.{IsShared};
+ghost use Rattle.lf_core.specs.Written.{machine_of};
 ghost use Rattle.lf_witness.specs.Runs.{IsLeastRun, IsSecondRun};
 ghost use Rattle.lf_witness.specs.Sets.{SetsFor};
 ghost use Rattle.lf_witness.specs.Branch.{OnlyFrom, IsOtherMove, IsLastBranch};
 
-use crate::onward::moves_of;
 use crate::runs::{extend_least, least_open};
-use lf_core::{Marked, Move, OutOfMemory, Run};
+use lf_core::{Move, OutOfMemory, Run};
+use lf_written::Table;
 use std::alloc::Global;
 
 /// A place of a line, and a move there.
@@ -30,45 +31,40 @@ fn point_after(start: u32, run: &Run, at: usize) -> u32
 }
 
 /// The least other move by which a run goes on where the least run is at this place.
-fn other_move<M: Marked>(
-    alloc: Global,
-    m: &M,
+fn other_move(
+    table: &Table,
     line: &[u8],
     sets: &[Vec<bool>],
     first: &Run,
     at: usize,
-) -> Result<Option<Move>, OutOfMemory>
-    requires sets { SetsFor (M.machine m.now) line.now sets.now }
-    requires first { IsLeastRun (M.machine m.now) (M.machine m.now).first line.now first.now }
+) -> Option<Move>
+    requires lawful { IsMachine (machine_of table.now) }
+    requires sets { SetsFor (machine_of table.now) line.now sets.now }
+    requires first { IsLeastRun (machine_of table.now) (machine_of table.now).first line.now first.now }
     requires within { at < length line.now }
-    ensures { IfOk result (λ step. OnlyFrom (M.machine m.now) line.now first.now (at + 1)
-        → IsOtherMove (M.machine m.now) line.now first.now at step) }
+    ensures { OnlyFrom (machine_of table.now) line.now first.now (at + 1)
+        → IsOtherMove (machine_of table.now) line.now first.now at result }
 {
-    let point = point_after(m.start(), first, at);
-    let moves = moves_of(alloc, m, point, line[at])?;
+    let point = point_after(table.start(), first, at);
+    let moves = table.moves(point, line[at]);
     let after = &sets[line.len() - 1 - at];
-    Ok(least_open(&moves, after, Some(first.get(at))))
+    least_open(moves, after, Some(first.get(at)))
 }
 
 /// The last place where another move than that of the least run leads on, and the least such move.
-fn last_branch<M: Marked>(
-    alloc: Global,
-    m: &M,
-    line: &[u8],
-    sets: &[Vec<bool>],
-    first: &Run,
-) -> Result<Option<Branch>, OutOfMemory>
-    requires sets { SetsFor (M.machine m.now) line.now sets.now }
-    requires first { IsLeastRun (M.machine m.now) (M.machine m.now).first line.now first.now }
-    ensures { IfOk result (λ branch. IsLastBranch (M.machine m.now) line.now first.now branch) }
+fn last_branch(table: &Table, line: &[u8], sets: &[Vec<bool>], first: &Run) -> Option<Branch>
+    requires lawful { IsMachine (machine_of table.now) }
+    requires sets { SetsFor (machine_of table.now) line.now sets.now }
+    requires first { IsLeastRun (machine_of table.now) (machine_of table.now).first line.now first.now }
+    ensures { IsLastBranch (machine_of table.now) line.now first.now result }
 {
     for k in 0..line.len() {
         let at = line.len() - 1 - k;
-        if let Some(step) = other_move(alloc, m, line, sets, first, at)? {
-            return Ok(Some(Branch { at, step }));
+        if let Some(step) = other_move(table, line, sets, first, at) {
+            return Some(Branch { at, step });
         }
     }
-    Ok(None)
+    None
 }
 
 /// The first moves of a run.
@@ -84,24 +80,25 @@ fn front_of(alloc: Global, run: &Run, at: usize) -> Result<Run, OutOfMemory>
 }
 
 /// The least run over a shared line that differs from the least.
-pub(crate) fn second_run<M: Marked>(
+pub(crate) fn second_run(
     alloc: Global,
-    m: &M,
+    table: &Table,
     line: &[u8],
     sets: &[Vec<bool>],
     first: &Run,
 ) -> Result<Run, OutOfMemory>
-    requires sets { SetsFor (M.machine m.now) line.now sets.now }
-    requires first { IsLeastRun (M.machine m.now) (M.machine m.now).first line.now first.now }
-    requires shared { IsShared (M.machine m.now) line.now }
-    ensures { IfOk result (λ run. IsSecondRun (M.machine m.now) (M.machine m.now).first line.now first.now run) }
+    requires lawful { IsMachine (machine_of table.now) }
+    requires sets { SetsFor (machine_of table.now) line.now sets.now }
+    requires first { IsLeastRun (machine_of table.now) (machine_of table.now).first line.now first.now }
+    requires shared { IsShared (machine_of table.now) line.now }
+    ensures { IfOk result (λ run. IsSecondRun (machine_of table.now) (machine_of table.now).first line.now first.now run) }
 {
-    let Some(branch) = last_branch(alloc, m, line, sets, first)? else {
+    let Some(branch) = last_branch(table, line, sets, first) else {
         return Ok(Run::new(alloc));
     };
     let mut run = front_of(alloc, first, branch.at)?;
     run.push(branch.step)?;
     let rest = line.split_at(branch.at + 1).1;
-    extend_least(alloc, m, rest, sets, branch.step.to, &mut run)?;
+    extend_least(table, rest, sets, branch.step.to, &mut run)?;
     Ok(run)
 }

@@ -8,7 +8,7 @@ use Rattle.lf_words.specs.declared.command.Side.{Side}
 use Rattle.lf_words.specs.declared.command.Front.{Front}
 use Rattle.lf_words.specs.declared.command.Verb.{Verb}
 use Rattle.lf_words.specs.declared.command.Verb.TheVariants.{Check, Read, Write, Translate, Show, Gen}
-use Rattle.lf_words.specs.Command.{verb_text, front_text, Given, value_of, option_words, AreOptionsOf, IsNumber, IsJobs, IsPlain, IsTranslate, IsGen, IsTail, is_short, IsCommand, IsOneCommandOrBad}
+use Rattle.lf_words.specs.Command.{verb_text, front_text, Given, value_of, option_words, AreOptionsOf, IsNumber, IsJobs, IsPlain, IsTranslate, IsGen, IsTail, is_word, IsCommand, IsOneCommandOrBad}
 use Rattle.lf_words.specs.Reading.{pairs, AreOptionWords}
 use Rattle.lf_words.proofs.NameLaws.{verb_one, verb_cases, front_one, front_cases}
 use Rattle.lf_words.proofs.NumberLaws.{number_one, number_cases, jobs_one, jobs_cases}
@@ -213,18 +213,18 @@ verb_of_command a rest verb d e h =
     let tail : rest ≡ h.tail = ap (λ (w : List (List ℕ)). drop 1 w) h.spelled in
     (same, subst (λ v. IsTail v rest d) same (subst (λ w. IsTail d.verb w d) (sym tail) h.follows))
 
-one_command : (a : List ℕ) (rest : List (List ℕ)) (verb : Verb) → a ≡ verb_text verb → list_all is_short (a ∷ rest) ≡ true → One (IsTail verb) verb rest → IsOneCommandOrBad (a ∷ rest)
+one_command : (a : List ℕ) (rest : List (List ℕ)) (verb : Verb) → a ≡ verb_text verb → list_all is_word (a ∷ rest) ≡ true → One (IsTail verb) verb rest → IsOneCommandOrBad (a ∷ rest)
 one_command a rest verb e short (inl x) =
     let spelled : a ∷ rest ≡ verb_text x.0.verb ∷ rest = ap (λ (w : List ℕ). w ∷ rest) e ∙ ap (λ v. verb_text v ∷ rest) (sym x.1) in
     let follows : IsTail x.0.verb rest x.0 = subst (λ v. IsTail v rest x.0) (sym x.1) x.2 in
-    inl (x.0, record { tail = rest; spelled = spelled; short = short; follows = follows }, λ d h. let p = verb_of_command a rest verb d e h in x.3 d p.0 p.1)
+    inl (x.0, record { tail = rest; spelled = spelled; each = short; follows = follows }, λ d h. let p = verb_of_command a rest verb d e h in x.3 d p.0 p.1)
 one_command a rest verb e short (inr n) = inr (λ d h. let p = verb_of_command a rest verb d e h in n d p.0 p.1)
 
 pub one_command_or_bad : (words : List (List ℕ)) → IsOneCommandOrBad words
 one_command_or_bad [] = inr (λ d h. let e : [] ≡ verb_text d.verb ∷ h.tail = h.spelled in cc)
 one_command_or_bad (a ∷ rest) =
-    elim (cases_Bool (list_all is_short (a ∷ rest))) [
-      | inr long ↦ inr (λ d h. let f : true ≡ false = sym h.short ∙ long in absurd (cc))
+    elim (cases_Bool (list_all is_word (a ∷ rest))) [
+      | inr long ↦ inr (λ d h. let f : true ≡ false = sym h.each ∙ long in absurd (cc))
       | inl short ↦ elim (verb_cases a) [
         | inr n ↦ inr (λ d h. n d.verb (ap (λ (w : List (List ℕ)). get_or w 0 []) h.spelled))
         | inl v ↦ one_command a rest v.0 v.1 short (tail_cases v.0 rest)

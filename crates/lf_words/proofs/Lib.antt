@@ -2,3 +2,4 @@ pub mod NameLaws
 pub mod NumberLaws
 pub mod OptionLaws
 pub mod CommandLaws
+pub mod WordLaws

@@ -1,7 +1,8 @@
 -- The command lines: the words of each command.
-use Rattle.std.specs.Prelude.{◌≡◌, ℕ, ◌≤◌, ◌⊎◌, List, [], ◌∷◌, Option, None, Some, Bool, true, cond, ◌||◌, length, codes, decimal, leb}
+use Rattle.std.specs.Prelude.{◌≡◌, ℕ, ◌≤◌, ◌⊎◌, List, [], ◌∷◌, Option, None, Some, Bool, true, cond, ◌||◌, ◌&&◌, length, codes, decimal, leb}
 use Rattle.std.specs.List.{list_all}
-use Rattle.std.specs.Str.{bytes_eq}
+use Rattle.std.specs.Str.{IsUtf8, bytes_eq, is_utf8}
+use Rattle.lf_limits.specs.Limits.{most_jobs, most_records, most_word_bytes}
 use Rattle.lf_words.specs.declared.command.Command.{Command}
 use Rattle.lf_words.specs.declared.command.Side.{Side}
 use Rattle.lf_words.specs.declared.command.Verb.{Verb}
@@ -76,10 +77,10 @@ AreOptionsOf verb (option ∷ options) =
 abbrev pub IsNumber : ℕ → List ℕ → ℕ → Type 0
 IsNumber most text n = (n ≤ most) × (text ≡ decimal n)
 
--- The number of jobs that the option says: 1 where it isn't given, and else one from 1 to 64.
+-- The number of jobs that the option says: 1 where it isn't given, and else one from 1 to the most.
 abbrev pub IsJobs : Option (List ℕ) → ℕ → Type 0
 IsJobs None jobs = jobs ≡ 1
-IsJobs (Some text) jobs = (1 ≤ jobs) × IsNumber 64 text jobs
+IsJobs (Some text) jobs = (1 ≤ jobs) × IsNumber most_jobs text jobs
 
 -- The options say how the source is narrowed and how many jobs there are.
 pub record Says (verb : Verb) (options : List Given) (c : Command) : Type 0 where
@@ -121,7 +122,7 @@ pub record IsGen (words : List (List ℕ)) (c : Command) : Type 0 where
   pub target : c.target ≡ None
   pub map : c.map ≡ None
   pub seed : IsNumber 0xffff_ffff_ffff_ffff seed_text c.seed
-  pub count : IsNumber 1_000_000 count_text c.count
+  pub count : IsNumber most_records count_text c.count
 
 -- The words after the verb, in the form that the verb has.
 abbrev pub IsTail : Verb → List (List ℕ) → Command → Type 0
@@ -132,15 +133,20 @@ IsTail Translate words c = IsTranslate words c
 IsTail Show words c = IsPlain words c
 IsTail Gen words c = IsGen words c
 
--- The word is not over the limit.
-abbrev pub is_short : List ℕ → Bool
-is_short word = leb (length word) 1_048_576
+-- A word is a text that isn't over the limit.
+abbrev pub is_word : List ℕ → Bool
+is_word word = is_utf8 word && leb (length word) most_word_bytes
+
+-- The same as a fact.
+pub record IsWord (word : List ℕ) : Type 0 where
+  pub text : IsUtf8 word
+  pub short : length word ≤ most_word_bytes
 
 -- The words are this command.
 pub record IsCommand (words : List (List ℕ)) (c : Command) : Type 0 where
   pub tail : List (List ℕ)
   pub spelled : words ≡ verb_text c.verb ∷ tail
-  pub short : list_all is_short words ≡ true
+  pub each : list_all is_word words ≡ true
   pub follows : IsTail c.verb tail c
 
 -- The words are no command.

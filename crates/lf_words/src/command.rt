@@ -1,3 +1,5 @@
+//! A command line, read.
+
 use lf_core::Str;
 
 /// What is to be done.

@@ -1,3 +1,5 @@
+//! Why no command was read.
+
 ghost use Rattle.std.specs.Prelude.{◌≡◌};
 
 use lf_core::OutOfMemory;

@@ -1,8 +1,15 @@
-ghost use Rattle.lf_words.specs.Command.{IsOneCommandOrBad};
+//! Laws over the definitions alone, each the contract of a function that does nothing.
 
-use lf_core::Str;
+ghost use Rattle.std.specs.Prelude.{ℕ, List};
+ghost use Rattle.lf_words.specs.Command.{IsCommand, IsOneCommandOrBad, IsWord};
+ghost use Rattle.lf_words.specs.declared.command.Command.{Command as OneCommand};
 
-/// Does nothing: its contract is the law that each list of words is one command, or bad.
-pub fn words_are_one_command_or_bad(_words: &[Str])
-    ensures { IsOneCommandOrBad _words.now }
+/// Each list of words is one command, or bad.
+pub fn words_are_one_command_or_bad()
+    ensures { (words : List (List ℕ)) → IsOneCommandOrBad words }
+{}
+
+/// The format of a command is one of its words, so a text within the limit.
+pub fn format_is_a_word()
+    ensures { (words : List (List ℕ)) (c : OneCommand) → IsCommand words c → IsWord c.source.format }
 {}

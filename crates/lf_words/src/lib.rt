@@ -3,7 +3,7 @@
 
 mod command;
 mod faults;
-mod laws;
+pub mod laws;
 mod names;
 mod numbers;
 mod options;
@@ -12,8 +12,4 @@ mod words;
 
 pub use command::{Command, Front, Side, Verb};
 pub use faults::WordFault;
-pub use laws::words_are_one_command_or_bad;
 pub use words::read_words;
-
-#[cfg(test)]
-mod tests;

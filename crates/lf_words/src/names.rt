@@ -1,3 +1,5 @@
+//! The words of verbs, fronts and options.
+
 ghost use Rattle.std.specs.Prelude.{◌≡◌, MatchOption, bytes_eq, codes};
 ghost use Rattle.lf_words.specs.Command.{verb_text, front_text, has_option};
 ghost use Rattle.lf_words.specs.Reading.{NamesNoVerb, NamesNoFront};

@@ -1,3 +1,5 @@
+//! Words that are numbers.
+
 ghost use Rattle.std.specs.Prelude.{MatchOption};
 ghost use Rattle.lf_words.specs.Command.{IsNumber};
 ghost use Rattle.lf_words.specs.Reading.{IsNoNumber};

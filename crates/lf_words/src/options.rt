@@ -1,3 +1,5 @@
+//! The options behind a command.
+
 ghost use Rattle.std.specs.Prelude.{◌≡◌, ◌↔◌, IfOk, IsTrue, MatchOption, option_copied};
 ghost use Rattle.lf_words.specs.Command.{value_of, IsJobs};
 ghost use Rattle.lf_words.specs.Reading.{pairs, AreOptionWords, IsNoJobs, jobs_text};
@@ -6,6 +8,7 @@ use crate::command::Verb;
 use crate::names::has_name;
 use crate::numbers::number_of;
 use lf_core::{OutOfMemory, Str};
+use lf_limits::MOST_JOBS;
 use std::alloc::Global;
 
 /// The value that stands under the name.
@@ -64,7 +67,7 @@ pub(crate) fn jobs_of(options: &[Str]) -> Option<u32>
     let Some(value) = find(options, "--jobs") else {
         return Some(1);
     };
-    let Some(jobs) = number_of(value.as_str(), 64) else {
+    let Some(jobs) = number_of(value.as_str(), MOST_JOBS as u64) else {
         return None;
     };
     if jobs == 0 {

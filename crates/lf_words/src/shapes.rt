@@ -1,3 +1,5 @@
+//! The forms of the words after a verb.
+
 ghost use Rattle.std.specs.Prelude.{◌≡◌, IfOk};
 ghost use Rattle.lf_words.specs.Command.{IsPlain, IsTranslate, IsGen, IsTail};
 ghost use Rattle.lf_words.specs.Reading.{given_side, Reads};
@@ -7,9 +9,8 @@ use crate::names::front_of;
 use crate::numbers::number_of;
 use crate::options::{are_options, jobs_of, text_of};
 use lf_core::{OutOfMemory, Str};
+use lf_limits::MOST_RECORDS;
 use std::alloc::Global;
-
-const MOST_COUNT: u64 = 1_000_000;
 
 /// The side with the front and the format, narrowed by the option of this name.
 fn side_of(
@@ -107,7 +108,7 @@ fn read_gen(alloc: Global, words: &[Str]) -> Result<Option<Command>, OutOfMemory
     let Some(seed) = number_of(words[2].as_str(), u64::MAX) else {
         return Ok(None);
     };
-    let Some(count) = number_of(words[3].as_str(), MOST_COUNT) else {
+    let Some(count) = number_of(words[3].as_str(), MOST_RECORDS as u64) else {
         return Ok(None);
     };
     if !are_options(Verb::Gen, options) {

@@ -1,6 +1,8 @@
+//! The words of a command line, read.
+
 ghost use Rattle.std.specs.Prelude.{◌≡◌, IfOk, Err};
 ghost use Rattle.std.specs.List.{list_all};
-ghost use Rattle.lf_words.specs.Command.{is_short, IsCommand, IsBad};
+ghost use Rattle.lf_words.specs.Command.{is_word as is_one_word, IsCommand, IsBad};
 ghost use Rattle.lf_words.specs.Reading.{ReadsWords};
 
 use crate::command::Command;
@@ -8,15 +10,20 @@ use crate::faults::WordFault;
 use crate::names::verb_of;
 use crate::shapes::read_tail;
 use lf_core::{OutOfMemory, Str};
+use lf_limits::MOST_WORD_BYTES;
 use std::alloc::Global;
 
-/// The most bytes of a word.
-const MOST_BYTES: usize = 1_048_576;
-
-fn are_short(words: &[Str]) -> bool
-    ensures { result ≡ list_all is_short words.now }
+/// Whether the word is within the limit. It is a text by its type.
+fn is_word(word: &Str) -> bool
+    ensures { result ≡ is_one_word word.now }
 {
-    words.iter().all(|word| word.as_str().len() <= MOST_BYTES)
+    word.as_str().len() <= MOST_WORD_BYTES
+}
+
+fn are_words(words: &[Str]) -> bool
+    ensures { result ≡ list_all is_one_word words.now }
+{
+    words.iter().all(is_word)
 }
 
 /// The command that the words are, and none exactly where they are none.
@@ -26,7 +33,7 @@ fn find_command(alloc: Global, words: &[Str]) -> Result<Option<Command>, OutOfMe
     if words.is_empty() {
         return Ok(None);
     }
-    if !are_short(words) {
+    if !are_words(words) {
         return Ok(None);
     }
     let Some(verb) = verb_of(words[0].as_str()) else {

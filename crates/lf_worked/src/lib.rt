@@ -7,3 +7,5 @@ mod examples;
 mod rows;
 #[cfg(test)]
 mod tests;
+#[cfg(test)]
+mod words;

@@ -1,6 +1,6 @@
 use crate::examples::{SOUND, Seen, Streams, expect, run_bytes, run_text};
-use lf_app::LINE;
 use lf_core::{Bytes, OutOfMemory, Str};
+use lf_limits::MOST_LINE_BYTES;
 use std::alloc::Global;
 use std::test::Fail;
 use std::thread::Threads;
@@ -120,14 +120,14 @@ fn a_push_to_err_fails(rt: HostRuntime) -> Result<(), Fail> {
     push_fails(&rt, rt.alloc(), "write", "", streams, 5, "")
 }
 
-/// A line of `LINE` letters, one of one letter more, and one that is short.
+/// A line of `MOST_LINE_BYTES` letters, one of one letter more, and one that is short.
 fn long_text(alloc: Global) -> Result<Bytes, OutOfMemory> {
     let mut bytes = Bytes::new(alloc);
-    for _k in 0..LINE {
+    for _k in 0..MOST_LINE_BYTES {
         bytes.push(b'a')?;
     }
     bytes.push(b'\n')?;
-    for _k in 0..LINE {
+    for _k in 0..MOST_LINE_BYTES {
         bytes.push(b'a')?;
     }
     bytes.extend(b"a\n\n")?;
@@ -153,7 +153,7 @@ fn long_lines(rt: HostRuntime) -> Result<(), Fail> {
     };
     let words = apache_words(rt.alloc(), "read", "%h")?;
     let seen = run_bytes(&rt, rt.alloc(), &words, bytes, streams)?;
-    assert_eq!(rt; seen.out.len(), LINE + 5);
+    assert_eq!(rt; seen.out.len(), MOST_LINE_BYTES + 5);
     assert_eq!(rt; seen.err.as_slice(), b"long 2\nunread 3\n".as_slice());
     assert_eq!(rt; seen.status, 3);
     Ok(())
@@ -188,9 +188,9 @@ fn shown_letters<R: Threads + Sync>(
 
 #[test]
 fn formats_of_many_letters(rt: HostRuntime) -> Result<(), Fail> {
-    let seen = shown_letters(&rt, rt.alloc(), LINE)?;
+    let seen = shown_letters(&rt, rt.alloc(), MOST_LINE_BYTES)?;
     assert!(rt; expect(&seen, 0, "", "").is_ok());
-    let seen = shown_letters(&rt, rt.alloc(), LINE + 1)?;
+    let seen = shown_letters(&rt, rt.alloc(), MOST_LINE_BYTES + 1)?;
     assert!(rt; expect(&seen, 2, "", "logfmt: bad command line\n").is_ok());
     Ok(())
 }

@@ -1,4 +1,4 @@
-ghost use Rattle.std.specs.Prelude.{◌≡◌, IfOk};
+ghost use Rattle.std.specs.Prelude.{◌≡◌};
 ghost use Rattle.lf_core.specs.Written.{written};
 
 use crate::table::Table;
@@ -23,12 +23,12 @@ impl<M: Marked> Model for Written<M> {
 }
 
 impl<M: Marked + Drop> Written<M> {
-    /// The machine, written out.
-    pub fn of(alloc: Global, source: M) -> Result<Written<M>, OutOfMemory>
-        ensures { IfOk result (λ written. written ≡ source) }
+    /// The machine, with what was written out of it.
+    pub fn new(source: M, table: Table) -> Written<M>
+        requires { table ≡ written (M.machine source) }
+        ensures { result ≡ source }
     {
-        let table = Table::of(alloc, &source)?;
-        Ok(Written { table, source })
+        Written { table, source }
     }
 
     /// The machine that was written out.

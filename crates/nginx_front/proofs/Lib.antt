@@ -1,8 +1,9 @@
 pub mod Names
-pub mod JoinedLaws
-pub mod WholeLaws
+pub mod EachByte
+pub mod Cuts
+pub mod StringsRead
+pub mod DirectiveRead
+pub mod PartsLaws
+pub mod TextKept
 pub mod Places
-pub mod StringLaws
-pub mod FoundStrings
-pub mod HeadLaws
-pub mod GrammarLaws
+pub mod WholeLaws

@@ -9,16 +9,16 @@ use Rattle.std.proofs.lemmas.Str.{IsUtf8-from_ascii}
 use Rattle.std.proofs.lemmas.Str.Ascii.{IsAscii-from_all}
 use Rattle.std.proofs.lemmas.List.{take_at, drop_at}
 use Rattle.std.proofs.lemmas.List.Elements.{All-nil, All-cons}
-use Rattle.lf_format.specs.Runs.{run, past}
-use Rattle.lf_format.proofs.RunCuts.{run_join}
-use Rattle.lf_format.specs.Items.{Failed}
-use Rattle.lf_format.specs.declared.fault.Cause.{Cause}
-use Rattle.lf_format.specs.declared.fault.Cause.TheVariants.{Unclosed, BadName}
-use Rattle.lf_format.specs.declared.fault.ItemFault.{ItemFault}
-use Rattle.lf_format.specs.declared.fault.ItemFault.TheVariants as fault
-use Rattle.lf_format.specs.declared.front.Taken.{Taken}
-use Rattle.lf_format.specs.declared.front.Given.{Given}
-use Rattle.lf_format.specs.declared.front.Given.TheVariants.{Slot}
+use Rattle.lf_spelling.specs.Runs.{run, past}
+use Rattle.lf_spelling.specs.RunLaws.{run_join}
+use Rattle.lf_spelling.specs.Items.{Failed}
+use Rattle.lf_spelling.specs.declared.fault.Cause.{Cause}
+use Rattle.lf_spelling.specs.declared.fault.Cause.TheVariants.{Unclosed, BadName}
+use Rattle.lf_spelling.specs.declared.fault.ItemFault.{ItemFault}
+use Rattle.lf_spelling.specs.declared.fault.ItemFault.TheVariants as fault
+use Rattle.lf_spelling.specs.declared.front.Taken.{Taken}
+use Rattle.lf_spelling.specs.declared.front.Given.{Given}
+use Rattle.lf_spelling.specs.declared.front.Given.TheVariants.{Slot}
 use Rattle.nginx_front.specs.declared.front.Nginx.{Nginx}
 use Rattle.nginx_front.specs.declared.table.Escape.{Escape}
 use Rattle.nginx_front.specs.Variables.{is_word, is_name, is_inside, spelling, braced_spelling, slot_of}

@@ -3,13 +3,14 @@ use Rattle.std.proofs.Common.{◌≡◌, ℕ, ◌≤◌, Bool, true, false, cond
 use Rattle.std.specs.List.{list_all}
 use Rattle.std.proofs.lemmas.Bool.{and_parts, and_from, not-true, ne_eqb}
 use Rattle.std.proofs.lemmas.List.{append-nil}
-use Rattle.lf_format.specs.Runs.{run, past}
-use Rattle.lf_format.proofs.RunCuts.{stops, run_again}
-use Rattle.lf_format.specs.Items.{Failed}
-use Rattle.lf_format.specs.declared.fault.Cause.{Cause}
-use Rattle.lf_format.specs.declared.fault.Cause.TheVariants.{LineBreak, Unclosed, BadName}
-use Rattle.lf_format.specs.declared.front.Given.{Given}
-use Rattle.lf_format.specs.declared.front.Given.TheVariants.{Byte, Slot}
+use Rattle.lf_spelling.specs.Runs.{run, past, stops}
+use Rattle.lf_spelling.specs.RunLaws.{run_again}
+use Rattle.lf_spelling.specs.ItemLaws.{at_both}
+use Rattle.lf_spelling.specs.Items.{Failed}
+use Rattle.lf_spelling.specs.declared.fault.Cause.{Cause}
+use Rattle.lf_spelling.specs.declared.fault.Cause.TheVariants.{LineBreak, Unclosed, BadName}
+use Rattle.lf_spelling.specs.declared.front.Given.{Given}
+use Rattle.lf_spelling.specs.declared.front.Given.TheVariants.{Byte, Slot}
 use Rattle.nginx_front.specs.declared.front.Nginx.{Nginx}
 use Rattle.nginx_front.specs.Variables.{is_word, is_name, is_inside, spelling, braced_spelling, slot_of}
 use Rattle.nginx_front.specs.Items.{begins_so, is_plain, IsItem, plain, bare, braced, HasFault, line_feed, unclosed, bad_braced, no_name}
@@ -71,9 +72,6 @@ open_again : (state : Nginx) (text : List ℕ) → list_all is_inside text ≡ t
 open_again state text all =
     let cut = run_again is_inside text [] all refl in
     ap (λ (t : List ℕ). on_braced state t) (sym (append-nil text)) ∙ closed_cut state (text ++ []) text [] cut.front_is cut.back_is
-
-at_both : (P : List ℕ → Given → Type 0) (a b : List ℕ) (g h : Given) → a ≡ b → g ≡ h → P b h → P a g
-at_both P a b g h e f p = subst (λ (x : List ℕ). P x g) (sym e) (subst (λ (x : Given). P b x) (sym f) p)
 
 unfoldable pub Again : Nginx → List ℕ → List ℕ → Given → Type 0
 Again state after bytes given = (1 ≤ length bytes) × (reading state (bytes ++ after) ≡ found state bytes given after)

@@ -1,10 +1,10 @@
 -- What stands in a text, and what is wrong where nothing does.
 use Rattle.std.specs.Prelude.{◌≡◌, ℕ, ◌==◌, ◌&&◌, not, Bool, true, false, List, [], ◌∷◌, ◌++◌}
 use Rattle.std.specs.List.{list_all}
-use Rattle.lf_format.specs.declared.fault.Cause.{Cause}
-use Rattle.lf_format.specs.declared.fault.Cause.TheVariants.{LineBreak, Unclosed, BadName}
-use Rattle.lf_format.specs.declared.front.Given.{Given}
-use Rattle.lf_format.specs.declared.front.Given.TheVariants.{Byte, Slot}
+use Rattle.lf_spelling.specs.declared.fault.Cause.{Cause}
+use Rattle.lf_spelling.specs.declared.fault.Cause.TheVariants.{LineBreak, Unclosed, BadName}
+use Rattle.lf_spelling.specs.declared.front.Given.{Given}
+use Rattle.lf_spelling.specs.declared.front.Given.TheVariants.{Byte, Slot}
 use Rattle.nginx_front.specs.declared.table.Escape.{Escape}
 use Rattle.nginx_front.specs.Variables.{is_word, is_name, is_inside, spelling, braced_spelling, slot_of}
 

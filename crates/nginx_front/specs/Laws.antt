@@ -1,10 +1,11 @@
 -- At the front of a text stands one item, or none for one cause, and what an item gives is good.
-use Rattle.std.proofs.Common.{◌≡◌, ℕ, ◌≤◌, not, eqb, List, [], ◌∷◌, length, sym, ap, subst, ◌∙◌, arith}
+use Rattle.std.proofs.Common.{◌≡◌, ℕ, not, eqb, List, [], ◌∷◌, sym, ap, subst, ◌∙◌, arith}
 use Rattle.std.proofs.lemmas.Bool.{and_parts}
-use Rattle.lf_format.specs.Items.{Item, Found}
-use Rattle.lf_format.specs.declared.front.Given.{Given}
-use Rattle.lf_format.specs.declared.front.Given.TheVariants.{Byte, Slot}
-use Rattle.lf_format.specs.Fronts.{IsFront, KeepsGiven, given_bytes}
+use Rattle.lf_spelling.specs.Items.{Item, Found}
+use Rattle.lf_spelling.specs.declared.front.Given.{Given}
+use Rattle.lf_spelling.specs.declared.front.Given.TheVariants.{Byte, Slot}
+use Rattle.lf_spelling.specs.Fronts.{IsFront, KeepsItem}
+use Rattle.lf_spelling.specs.ItemLaws.{at_both}
 use Rattle.nginx_front.specs.declared.front.Nginx.{Nginx}
 use Rattle.nginx_front.specs.declared.table.Escape.{Escape}
 use Rattle.nginx_front.specs.Variables.{spelling, braced_spelling, slot_of}
@@ -14,17 +15,10 @@ use Rattle.nginx_front.specs.SlotLaws.{keeps_slot}
 use Rattle.nginx_front.specs.FoundLaws.{Fine, all_fine}
 use Rattle.nginx_front.specs.AgainLaws.{Again, again, Fails, fails_again}
 
-record Keeps (bytes : List ℕ) (given : Given) : Type 0 where
-  good : KeepsGiven given
-  short : given_bytes given ≤ length bytes
-
-at_item : (bytes b : List ℕ) (given g : Given) → bytes ≡ b → given ≡ g → Keeps b g → Keeps bytes given
-at_item bytes b given g eb eg h = subst (λ (x : List ℕ). Keeps x given) (sym eb) (subst (λ (x : Given). Keeps b x) (sym eg) h)
-
-item_keeps : (escape : Escape) (bytes : List ℕ) (given : Given) (after : List ℕ) → IsItem escape bytes given after → Keeps bytes given
-item_keeps escape bytes given after (plain b h eb eg) = at_item bytes (b ∷ []) given (Byte b) eb eg (record { good = (and_parts (not (eqb b 10)) (not (eqb b 36)) h).0; short = omega arith })
-item_keeps escape bytes given after (bare name good stop eb eg) = at_item bytes (spelling name) given (Slot (slot_of escape name)) eb eg (record { good = keeps_slot escape name; short = omega arith })
-item_keeps escape bytes given after (braced name good eb eg) = at_item bytes (braced_spelling name) given (Slot (slot_of escape name)) eb eg (record { good = keeps_slot escape name; short = omega arith })
+item_keeps : (escape : Escape) (bytes : List ℕ) (given : Given) (after : List ℕ) → IsItem escape bytes given after → KeepsItem bytes given
+item_keeps escape bytes given after (plain b h eb eg) = at_both KeepsItem bytes (b ∷ []) given (Byte b) eb eg (record { good = (and_parts (not (eqb b 10)) (not (eqb b 36)) h).0; short = omega arith })
+item_keeps escape bytes given after (bare name good stop eb eg) = at_both KeepsItem bytes (spelling name) given (Slot (slot_of escape name)) eb eg (record { good = keeps_slot escape name; short = omega arith })
+item_keeps escape bytes given after (braced name good eb eg) = at_both KeepsItem bytes (braced_spelling name) given (Slot (slot_of escape name)) eb eg (record { good = keeps_slot escape name; short = omega arith })
 
 -- the item found again is the item
 same_item : (state : Nginx) (item : Item Nginx) (after : List ℕ) → item.state ≡ state → found state item.bytes item.given after ≡ Found item after
@@ -36,6 +30,6 @@ laws = record {
   found = λ state text item after some read. subst (Fine state text) read (all_fine state text some);
   failed = λ state text cause some read. subst (Fine state text) read (all_fine state text some);
   item_found = λ state item after is. let h = again state item.bytes item.given after is.is in (h.0, h.1 ∙ same_item state item after is.same);
-  keeps = λ state item after is. let k = item_keeps state.escape item.bytes item.given after is.is in record { good = k.good; short = k.short };
+  keeps = λ state item after is. item_keeps state.escape item.bytes item.given after is.is;
   fault_found = λ state text cause is. fails_again state text cause is;
 }

@@ -7,8 +7,10 @@ pub mod SlotLaws
 pub mod FoundLaws
 pub mod AgainLaws
 pub mod Laws
-pub mod Directive
-pub mod Scan
-pub mod Head
+pub mod Bytes
+pub mod Syntax
+pub mod Strings
+pub mod Escapes
+pub mod Passes
+pub mod Parts
 pub mod Whole
-pub mod Grammar

@@ -1,9 +1,9 @@
 -- Formats as nginx's log_format spells them.
 use Rattle.std.specs.Prelude.{ℕ, false, List}
 use Rattle.lf_format.specs.Shape.{Shape}
-use Rattle.lf_format.specs.Spelling as spelling
+use Rattle.lf_spelling.specs.Spelling as spelling
 use Rattle.lf_format.specs.declared.format.LineEnd.TheVariants.{Lf}
-use Rattle.lf_format.specs.declared.fault.Cause.{Cause}
+use Rattle.lf_spelling.specs.declared.fault.Cause.{Cause}
 use Rattle.nginx_front.specs.declared.table.Escape.{Escape}
 use Rattle.nginx_front.specs.Reading.{item_is, fault_is}
 

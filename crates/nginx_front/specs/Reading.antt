@@ -1,15 +1,15 @@
 -- What a reader finds at the front of a text.
 use Rattle.std.specs.Prelude.{◌≡◌, ℕ, ◌==◌, true, false, Result, Ok, Err, List, [], ◌∷◌, if◌then◌else◌}
-use Rattle.lf_format.specs.Items.{Item, Reading, Found, Failed}
-use Rattle.lf_format.specs.Runs.{run, past}
-use Rattle.lf_format.specs.Fronts.{GivesItem}
-use Rattle.lf_format.specs.declared.fault.Cause.{Cause}
-use Rattle.lf_format.specs.declared.fault.Cause.TheVariants.{LineBreak, EmptyFormat, Unclosed, BadName}
-use Rattle.lf_format.specs.declared.fault.ItemFault.{ItemFault}
-use Rattle.lf_format.specs.declared.fault.ItemFault.TheVariants as fault
-use Rattle.lf_format.specs.declared.front.Given.{Given}
-use Rattle.lf_format.specs.declared.front.Given.TheVariants.{Byte, Slot}
-use Rattle.lf_format.specs.declared.front.Taken.{Taken}
+use Rattle.lf_spelling.specs.Items.{Item, Reading, Found, Failed}
+use Rattle.lf_spelling.specs.Runs.{run, past}
+use Rattle.lf_spelling.specs.Fronts.{GivesItem}
+use Rattle.lf_spelling.specs.declared.fault.Cause.{Cause}
+use Rattle.lf_spelling.specs.declared.fault.Cause.TheVariants.{LineBreak, EmptyFormat, Unclosed, BadName}
+use Rattle.lf_spelling.specs.declared.fault.ItemFault.{ItemFault}
+use Rattle.lf_spelling.specs.declared.fault.ItemFault.TheVariants as fault
+use Rattle.lf_spelling.specs.declared.front.Given.{Given}
+use Rattle.lf_spelling.specs.declared.front.Given.TheVariants.{Byte, Slot}
+use Rattle.lf_spelling.specs.declared.front.Taken.{Taken}
 use Rattle.nginx_front.specs.declared.front.Nginx.{Nginx}
 use Rattle.nginx_front.specs.declared.table.Escape.{Escape}
 use Rattle.nginx_front.specs.Variables.{is_word, is_inside, is_name, spelling, braced_spelling, slot_of}

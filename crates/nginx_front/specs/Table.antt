@@ -8,11 +8,12 @@ use Rattle.lf_core.specs.declared.class.TheConstants.Class as classes
 use Rattle.lf_number.specs.declared.padded.Radix.TheVariants.{Ten}
 use Rattle.lf_format.specs.declared.kind.Kind.{Kind}
 use Rattle.lf_format.specs.declared.kind.Kind.TheVariants as kind
-use Rattle.lf_format.specs.declared.kind.Coding.{Coding}
-use Rattle.lf_format.specs.declared.kind.Coding.TheVariants.{Raw, NginxHex, NginxJson}
+use Rattle.lf_escape.specs.declared.coding.Coding.{Coding}
+use Rattle.lf_escape.specs.declared.coding.Coding.TheVariants.{Raw, NginxHex, NginxJson}
 use Rattle.lf_format.specs.declared.slot.Absent.{Absent}
 use Rattle.lf_format.specs.declared.slot.Absent.TheVariants.{No, Dash, Blank}
 use Rattle.lf_format.specs.CommonKinds.{zero_fits, one_fits, texts, numbers, padded, fixed3}
+use Rattle.lf_spelling.specs.Numbers.{greatest}
 use Rattle.nginx_front.specs.declared.table.Escape.{Escape}
 use Rattle.nginx_front.specs.declared.table.Escape.TheVariants.{Default, Json, Off}
 use Rattle.nginx_front.specs.declared.table.Sort.{Sort}
@@ -49,10 +50,6 @@ sort_in (entry ∷ entries) name = if list_any (λ own. bytes_eq name own) entry
 -- the sort of a variable, by its name without the dollar sign
 abbrev pub sort_of : List ℕ → Sort
 sort_of name = sort_in table name
-
--- the greatest number of 63 bits
-abbrev pub greatest : ℕ
-greatest = 9223372036854775807
 
 -- The letters of a text that may be any: what isn't escaped has only the bytes of a header, among which are the visible ones.
 abbrev pub letters_of : Escape → Class

@@ -1,6 +1,7 @@
 -- Names of variables, and their slots.
-use Rattle.std.specs.Prelude.{ℕ, ◌==◌, ◌&&◌, ◌||◌, not, nat_le, Bool, false, List, [], ◌∷◌, ◌++◌}
+use Rattle.std.specs.Prelude.{ℕ, ◌==◌, ◌&&◌, ◌||◌, nat_le, Bool, false, List, [], ◌∷◌, ◌++◌}
 use Rattle.std.specs.List.{list_all}
+use Rattle.lf_spelling.specs.Enclosed.{is_not}
 use Rattle.lf_format.specs.declared.slot.Slot.{Slot}
 use Rattle.nginx_front.specs.declared.table.Escape.{Escape}
 use Rattle.nginx_front.specs.Table.{sort_of, kind_of, code_of, absence_of}
@@ -16,7 +17,7 @@ is_name (b ∷ name) = list_all is_word (b ∷ name)
 
 -- any byte but `}`
 abbrev pub is_inside : ℕ → Bool
-is_inside b = not (b == 125)
+is_inside = is_not 125
 
 -- a variable as it is spelled without braces
 abbrev pub spelling : List ℕ → List ℕ

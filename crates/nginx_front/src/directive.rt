@@ -1,38 +1,27 @@
 //! A whole directive: its parts, and then the format that its joined strings spell.
 
-ghost use Rattle.std.specs.Prelude.{◌≡◌, ◌≤◌, ◌↔◌, ℕ, List, length, IfOk};
-ghost use Rattle.lf_format.specs.Spelling.{AnswersFormat, AnswersFault};
+ghost use Rattle.std.specs.Prelude.{◌≡◌, ◌≤◌, ◌↔◌, ℕ, List, length, drop, Some, IfOk};
+ghost use Rattle.lf_limits.specs.Limits.{most_text_bytes};
+ghost use Rattle.lf_spelling.specs.Spelling.{AnswersFormat, AnswersFault};
 ghost use Rattle.lf_format.specs.Shape.{Shape};
-ghost use Rattle.lf_format.specs.declared.fault.Cause.{Cause};
-ghost use Rattle.nginx_front.specs.Grammar.{IsSpelled};
-ghost use Rattle.nginx_front.specs.declared.scan.Placed.{Placed};
+ghost use Rattle.lf_spelling.specs.declared.fault.Cause.{Cause};
+ghost use Rattle.nginx_front.specs.Syntax.{Is};
+ghost use Rattle.nginx_front.specs.Syntax as syntax;
+ghost use Rattle.nginx_front.specs.Escapes.{escape_at};
+ghost use Rattle.nginx_front.specs.Passes.{word_place, given_in};
+ghost use Rattle.nginx_front.specs.Parts.{IsSpelled};
+ghost use Rattle.nginx_front.specs.declared.strings.Placed.{Placed};
 ghost use Rattle.nginx_front.specs.declared.table.Escape.{Escape};
-ghost use Rattle.nginx_front.specs.Whole.{Joined, says, bytes_of, place_of, GivesSaid, SpellsDirective, FaultyDirective, HasOneDirectiveAnswer};
+ghost use Rattle.nginx_front.specs.Whole.{bytes_of, place_of, SpellsDirective, FaultyDirective, HasOneDirectiveAnswer};
 
 use crate::front::{one_answer, parse_bytes};
-use crate::head::{escape_part, head};
-use crate::scan::{Placed, strings};
+use crate::parts::{Said, read_directive};
+use crate::strings::Placed;
 use crate::table::Escape;
 use lf_core::{Bytes, OutOfMemory};
-use lf_format::{Format, FormatFault};
+use lf_format::Format;
+use lf_spelling::FormatFault;
 use std::alloc::Global;
-
-/// What a directive says: the escape, and the bytes of its joined strings.
-#[derive(Drop)]
-struct Said {
-    escape: Escape,
-    given: Vec<Placed>,
-}
-
-fn read_directive(alloc: Global, text: &[u8]) -> Result<Said, FormatFault>
-    requires { length text.now ≤ 1048576 }
-    ensures { GivesSaid (says text.now) result }
-{
-    let end = head(text)?;
-    let (escape, start) = escape_part(text, end)?;
-    let given = strings(alloc, text, start)?;
-    Ok(Said { escape, given })
-}
 
 /// The bytes without their places.
 fn joined(alloc: Global, given: &[Placed]) -> Result<Bytes, OutOfMemory>
@@ -58,7 +47,7 @@ fn place_of(given: &[Placed], at: u32) -> u32
 /// The format that a `log_format` directive spells, or its first fault. A fault in the joined strings has the place
 /// of the byte in the directive that gave its first byte.
 pub fn parse_directive(alloc: Global, text: &str) -> Result<Format, FormatFault>
-    requires { length text.now ≤ 1048576 }
+    requires { length text.now ≤ most_text_bytes }
     // What is answered is so.
     ensures spelled { IfOk result (λ format. SpellsDirective text.now format) }
     ensures faulty { (place : ℕ) (cause : Cause) → result ≡ Err (FormatFault.At place cause) → FaultyDirective text.now place cause }
@@ -77,11 +66,11 @@ pub fn parse_directive(alloc: Global, text: &str) -> Result<Format, FormatFault>
     }
 }
 
-/// Each directive spells one format, or it has one first fault. And a text says an escape and joined bytes exactly
-/// where it is spelled by the parts of a directive that have them.
+/// Each directive spells one format, or it has one first fault. And its parts have the escape and give the bytes that
+/// are read of a directive whose escape is good, and only these.
 pub fn one_directive_answer()
     ensures one { (text : List ℕ) → HasOneDirectiveAnswer text }
-    ensures parts { (text : List ℕ) (escape : Escape) (given : List Placed) → (says text ≡ Joined escape given) ↔ IsSpelled text escape given }
+    ensures parts { (text : List ℕ) (escape : Escape) (given : List Placed) → IsSpelled text escape given ↔ (Is syntax.directive text × (escape_at (drop (word_place text) text) ≡ Some escape) × (given_in text ≡ given)) }
 {
     one_answer(Escape::Default);
     one_answer(Escape::Json);

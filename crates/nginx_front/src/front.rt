@@ -1,15 +1,17 @@
 //! The front itself: its items, and the reading of a whole text.
 
 ghost use Rattle.std.specs.Prelude.{◌≡◌, ◌≤◌, ℕ, List, length, IfOk};
+ghost use Rattle.lf_limits.specs.Limits.{most_text_bytes};
 ghost use Rattle.std.specs.Str.{IsUtf8};
-ghost use Rattle.lf_format.specs.Spelling.{AnswersFormat, AnswersFault};
+ghost use Rattle.lf_spelling.specs.Spelling.{AnswersFormat, AnswersFault};
 ghost use Rattle.lf_format.specs.Shape.{Shape};
-ghost use Rattle.lf_format.specs.declared.fault.Cause.{Cause};
+ghost use Rattle.lf_spelling.specs.declared.fault.Cause.{Cause};
 ghost use Rattle.nginx_front.specs.Nginx.{Spells, IsFaulty, HasOneAnswer};
 
 use crate::table::Escape;
 use crate::variable::dollar;
-use lf_format::{Cause, Format, FormatFault, Front, Given, ItemFault, LineEnd, Taken, read_text};
+use lf_format::{Format, LineEnd};
+use lf_spelling::{Cause, FormatFault, Front, Given, ItemFault, Taken, read_text};
 use std::alloc::Global;
 
 /// nginx's language under an escape, which no item changes.
@@ -48,7 +50,7 @@ impl Front for Nginx {
 
 /// The format that bytes of text spell under an escape, or their first fault.
 pub(crate) fn parse_bytes(alloc: Global, text: &[u8], escape: Escape) -> Result<Format, FormatFault>
-    requires short { length text.now ≤ 1048576 }
+    requires short { length text.now ≤ most_text_bytes }
     requires text { IsUtf8 text.now }
     ensures spelled { IfOk result (λ format. Spells escape text.now format) }
     ensures faulty { (place : ℕ) (cause : Cause) → result ≡ Err (FormatFault.At place cause) → IsFaulty escape text.now place cause }
@@ -60,7 +62,7 @@ pub(crate) fn parse_bytes(alloc: Global, text: &[u8], escape: Escape) -> Result<
 
 /// The format that a text spells under an escape, or its first fault.
 pub fn parse(alloc: Global, text: &str, escape: Escape) -> Result<Format, FormatFault>
-    requires { length text.now ≤ 1048576 }
+    requires { length text.now ≤ most_text_bytes }
     // What is answered is so.
     ensures spelled { IfOk result (λ format. Spells escape text.now format) }
     ensures faulty { (place : ℕ) (cause : Cause) → result ≡ Err (FormatFault.At place cause) → IsFaulty escape text.now place cause }
@@ -75,5 +77,5 @@ pub fn parse(alloc: Global, text: &str, escape: Escape) -> Result<Format, Format
 pub fn one_answer(escape: Escape)
     ensures { (text : List ℕ) → HasOneAnswer escape text }
 {
-    lf_format::one_answer(&Nginx { escape });
+    lf_spelling::one_answer(&Nginx { escape });
 }

@@ -2,12 +2,13 @@
 
 ghost use Rattle.std.specs.Prelude.{◌≡◌, ◌∷◌, ◌+◌, ◌<◌, ◌^◌, length, IfOk};
 ghost use Rattle.std.specs.List.{list_all, prefix_len};
-ghost use Rattle.nginx_front.specs.Variables.{is_word, is_inside, is_name, slot_of};
+ghost use Rattle.nginx_front.specs.Variables.{is_word, is_name, slot_of};
 ghost use Rattle.nginx_front.specs.Reading.{on_bare, on_braced, on_dollar, Gives, GivesName};
 
 use crate::table::{Escape, absence_of, code_of, kind_of, sort_of};
-use lf_core::{OutOfMemory, Str};
-use lf_format::{Cause, Given, ItemFault, Slot, Taken};
+use lf_core::OutOfMemory;
+use lf_format::Slot;
+use lf_spelling::{Cause, Given, ItemFault, Taken, cut_before, spelled};
 use std::alloc::Global;
 
 /// A letter, a digit or `_`.
@@ -20,23 +21,7 @@ pub fn is_word_byte(b: u8) -> bool
 fn word_run(text: &[u8]) -> usize
     ensures { result ≡ prefix_len is_word text.now }
 {
-    for (i, b) in text.iter().enumerate() {
-        if !is_word_byte(*b) {
-            return i;
-        }
-    }
-    text.len()
-}
-
-fn inside_run(text: &[u8]) -> usize
-    ensures { result ≡ prefix_len is_inside text.now }
-{
-    for (i, b) in text.iter().enumerate() {
-        if *b == b'}' {
-            return i;
-        }
-    }
-    text.len()
+    text.iter().take_while(|b| is_word_byte(**b)).count()
 }
 
 fn are_word_bytes(text: &[u8]) -> bool
@@ -60,11 +45,8 @@ fn slot(alloc: Global, escape: Escape, name: &str) -> Result<Slot, OutOfMemory>
 {
     let sort = sort_of(name);
     let kind = kind_of(alloc, escape, sort)?;
-    let mut spelled = String::from_str(alloc, "$")?;
-    spelled.push_str(name)?;
-    let name = Str::of(alloc, spelled.as_str())?;
     Ok(Slot {
-        name,
+        name: spelled(alloc, "$", name.as_bytes())?,
         kind,
         code: code_of(escape, sort),
         absent: absence_of(escape, sort),
@@ -104,7 +86,7 @@ fn braced(alloc: Global, escape: Escape, text: &[u8]) -> Result<Taken, ItemFault
     requires { length text.now + 3 < 2 ^ 64 }
     ensures { Gives escape (on_braced (record { escape = escape }) text.now) (36 ∷ 123 ∷ text.now) result }
 {
-    let (name, closed) = text.split_at(inside_run(text));
+    let (name, closed) = cut_before(text, b'}');
     if closed.is_empty() {
         return Err(ItemFault::Fault(Cause::Unclosed));
     }

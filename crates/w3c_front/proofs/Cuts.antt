@@ -2,27 +2,28 @@
 use Rattle.std.proofs.Common.{◌≡◌, ℕ, ◌≤◌, ◌+◌, true, false, cond, eqb, List, ◌∷◌, length, take, drop, None, Ok, Err, refl, sym, ap, subst, ◌∙◌, length-append, arith}
 use Rattle.std.specs.List.{prefix_len}
 use Rattle.std.proofs.lemmas.List.{take_at}
-use Rattle.lf_format.specs.Runs.{run, past}
-use Rattle.lf_format.proofs.RunCuts.{run_taken}
-use Rattle.lf_format.specs.Items.{Found, Failed}
-use Rattle.lf_format.specs.Fronts.{GivesItem}
-use Rattle.lf_format.specs.declared.fault.Cause.TheVariants.{LineBreak}
-use Rattle.lf_format.specs.declared.fault.ItemFault.{ItemFault}
-use Rattle.lf_format.specs.declared.fault.ItemFault.TheVariants as fault
-use Rattle.lf_format.specs.declared.front.Given.{Given}
+use Rattle.lf_spelling.specs.Runs.{run, past}
+use Rattle.lf_spelling.specs.Enclosed.{is_not}
+use Rattle.lf_spelling.specs.RunLaws.{run_taken}
+use Rattle.lf_spelling.specs.Items.{Found, Failed}
+use Rattle.lf_spelling.specs.Fronts.{GivesItem}
+use Rattle.lf_spelling.specs.declared.fault.Cause.TheVariants.{LineBreak}
+use Rattle.lf_spelling.specs.declared.fault.ItemFault.{ItemFault}
+use Rattle.lf_spelling.specs.declared.fault.ItemFault.TheVariants as fault
+use Rattle.lf_spelling.specs.declared.front.Given.{Given}
 use Rattle.lf_format.specs.declared.slot.Slot.{Slot}
 use Rattle.w3c_front.specs.declared.front.Fields.{Fields}
 use Rattle.w3c_front.specs.declared.front.Place.{Place}
 use Rattle.w3c_front.specs.declared.front.Place.TheVariants.{First, Later}
 use Rattle.w3c_front.specs.declared.table.Language.{Language}
 use Rattle.w3c_front.specs.Table.{prefixes, is_listed}
-use Rattle.w3c_front.specs.Identifier.{is_other, past_first, past_prefix, field_of, slot_of}
+use Rattle.w3c_front.specs.Identifier.{past_first, past_prefix, field_of, slot_of}
 use Rattle.w3c_front.specs.Items.{is_blank, is_inner, heading, has_heading, after_blanks, given_of, passed}
 use Rattle.w3c_front.specs.Reading.{on_field, reading, GivesSlot}
 use Rattle.w3c_front.specs.FrontLaws.{fine_heading}
 
-pub not_prefixed : (language : Language) (mark : ℕ) (name front : List ℕ) → front ≡ run (is_other mark) name → is_listed (prefixes language) front ≡ false → past_prefix language mark name ≡ None
-not_prefixed language mark name front is none = ap (λ v. cond v (past_first (past (is_other mark) name)) None) (ap (is_listed (prefixes language)) (sym is) ∙ none)
+pub not_prefixed : (language : Language) (mark : ℕ) (name front : List ℕ) → front ≡ run (is_not mark) name → is_listed (prefixes language) front ≡ false → past_prefix language mark name ≡ None
+not_prefixed language mark name front is none = ap (λ v. cond v (past_first (past (is_not mark) name)) None) (ap (is_listed (prefixes language)) (sym is) ∙ none)
 
 -- ---- the front of a list of fields
 

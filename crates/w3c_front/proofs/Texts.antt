@@ -8,15 +8,16 @@ use Rattle.std.proofs.lemmas.List.{take_at, drop_at}
 use Rattle.std.proofs.lemmas.Slice.Eq.{bytes_eq-Decides}
 use Rattle.std.proofs.lemmas.Str.{IsUtf8-take, IsUtf8-drop, IsCharBoundary-before_ascii}
 use Rattle.std.proofs.Math.Seq.{get_or-append_seam}
-use Rattle.lf_format.specs.Cuts.{EndsText}
-use Rattle.lf_format.specs.Runs.{run, past}
-use Rattle.lf_format.proofs.RunCuts.{run_join, past_stop, run_taken}
+use Rattle.lf_spelling.specs.Cuts.{EndsText}
+use Rattle.lf_spelling.specs.Runs.{run, past}
+use Rattle.lf_spelling.specs.Enclosed.{is_not}
+use Rattle.lf_spelling.specs.RunLaws.{run_join, past_stop, run_taken}
 use Rattle.w3c_front.specs.declared.table.Language.{Language}
 use Rattle.w3c_front.specs.declared.table.Language.TheVariants.{Draft, Iis}
 use Rattle.w3c_front.specs.declared.table.Sort.{Sort}
 use Rattle.w3c_front.specs.declared.table.Sort.TheVariants.{Word}
 use Rattle.w3c_front.specs.Table.{Entry, prefixes, is_listed, sort_in, draft_fields, iis_fields}
-use Rattle.w3c_front.specs.Identifier.{is_other, past_first, past_prefix, is_own, is_own_byte, is_some_byte, after_dash, prefixed_sort, or_else, sort_of, known, field_by, field_of}
+use Rattle.w3c_front.specs.Identifier.{past_first, past_prefix, is_own, is_own_byte, is_some_byte, after_dash, prefixed_sort, or_else, sort_of, known, field_by, field_of}
 use Rattle.w3c_front.specs.Items.{is_blank, is_inner}
 use Rattle.w3c_front.specs.FrontLaws.{begins}
 
@@ -55,9 +56,9 @@ prefixes_low Draft = refl
 prefixes_low Iis = refl
 
 prefix_low : (language : Language) (mark : ℕ) (name rest : List ℕ) → past_prefix language mark name ≡ Some rest → starts_low name ≡ true
-prefix_low language mark name rest is = elim (cases_Bool (is_listed (prefixes language) (run (is_other mark) name))) [
-  | inl e ↦ run_low (is_other mark) name (listed_low (prefixes language) (run (is_other mark) name) (prefixes_low language) e)
-  | inr e ↦ let none : None ≡ Some rest = sym (ap (λ v. cond v (past_first (past (is_other mark) name)) None) e) ∙ is in absurd cc
+prefix_low language mark name rest is = elim (cases_Bool (is_listed (prefixes language) (run (is_not mark) name))) [
+  | inl e ↦ run_low (is_not mark) name (listed_low (prefixes language) (run (is_not mark) name) (prefixes_low language) e)
+  | inr e ↦ let none : None ≡ Some rest = sym (ap (λ v. cond v (past_first (past (is_not mark) name)) None) e) ∙ is in absurd cc
 ]
 
 own_low : (name : List ℕ) → is_own name ≡ true → starts_low name ≡ true

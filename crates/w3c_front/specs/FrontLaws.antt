@@ -6,17 +6,17 @@ use Rattle.std.proofs.lemmas.Bool.{eqb-true, cond_both, and_parts, not-true}
 use Rattle.std.proofs.lemmas.List.{append_cancel_left}
 use Rattle.std.specs.Cmp.{unsigned_Decides}
 use Rattle.std.proofs.lemmas.Slice.Eq.{starts_is}
-use Rattle.lf_format.specs.Runs.{run, past}
-use Rattle.lf_format.proofs.RunCuts.{run_join}
-use Rattle.lf_format.specs.Items.{Item, Reading, Found, Failed}
-use Rattle.lf_format.specs.declared.fault.Cause.{Cause}
-use Rattle.lf_format.specs.declared.fault.Cause.TheVariants.{LineBreak}
+use Rattle.lf_spelling.specs.Runs.{run, past}
+use Rattle.lf_spelling.specs.RunLaws.{run_join}
+use Rattle.lf_spelling.specs.Items.{Item, Reading, Found, Failed}
+use Rattle.lf_spelling.specs.declared.fault.Cause.{Cause}
+use Rattle.lf_spelling.specs.declared.fault.Cause.TheVariants.{LineBreak}
 use Rattle.w3c_front.specs.declared.front.Fields.{Fields}
 use Rattle.w3c_front.specs.declared.front.Place.{Place}
 use Rattle.w3c_front.specs.declared.front.Place.TheVariants.{Start, First, Later}
 use Rattle.w3c_front.specs.declared.table.Sort.{Sort}
 use Rattle.w3c_front.specs.Identifier.{field_of}
-use Rattle.w3c_front.specs.Items.{is_blank, is_inner, IsRun, heading, has_heading, after_blanks, passed, taken, IsItem, blanks, heads, field, HasFault, line_feed, bad_field}
+use Rattle.w3c_front.specs.Items.{is_blank, is_inner, IsRun, heading, has_heading, after_blanks, passed, IsItem, blanks, heads, field, HasFault, line_feed, bad_field}
 use Rattle.w3c_front.specs.Reading.{on_field, reading}
 
 -- ---- what is read stands there
@@ -131,14 +131,11 @@ identifier_again state (b ∷ name) after h head =
     ∙ ap (λ (t : List ℕ). on_field state t (past is_inner (b ∷ (name ++ after))) (field_of state.language t)) parts.front
     ∙ ap (λ (t : List ℕ). on_field state (b ∷ name) t (field_of state.language (b ∷ name))) parts.back
 
-at_item : (state : Fields) (item other : Item Fields) (after : List ℕ) → item ≡ other → Again state other after → Again state item after
-at_item state item other after e h = subst (λ (x : Item Fields). Again state x after) (sym e) h
-
 pub again : (state : Fields) (item : Item Fields) (after : List ℕ) → IsItem state item after → Again state item after
 unfolding Again
-again state item after (blanks bytes h e) = at_item state item (passed state bytes (after_blanks state.place)) after e (h.some, blanks_again state bytes after h.some h.longest)
-again state item after (heads is e) = at_item state item (passed state heading First) after e (omega arith, heading_again state after is)
-again state item after (field name sort h head is e) = at_item state item (taken state name sort) after e (h.some, identifier_again state name after h head ∙ ap (on_field state name after) is)
+again state item after (blanks bytes h e) = subst (λ (x : Item Fields). Again state x after) (sym e) (h.some, blanks_again state bytes after h.some h.longest)
+again state item after (heads is e) = subst (λ (x : Item Fields). Again state x after) (sym e) (omega arith, heading_again state after is)
+again state item after (field name sort h head is e) = subst (λ (x : Item Fields). Again state x after) (sym e) (h.some, identifier_again state name after h head ∙ ap (on_field state name after) is)
 
 pub fails_again : (state : Fields) (text : List ℕ) (cause : Cause) → HasFault state text cause → (1 ≤ length text) × (reading state text ≡ Failed cause)
 fails_again state text cause (line_feed after is c) = subst (λ (t : List ℕ). (1 ≤ length t) × (reading state t ≡ Failed cause)) (sym is) (omega arith, ap (λ (x : Cause). Failed x) (sym c))

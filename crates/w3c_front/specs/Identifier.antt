@@ -1,20 +1,17 @@
 -- An identifier: what it stands for, or what is wrong with it.
 use Rattle.std.specs.Prelude.{ℕ, ◌-◌, ◌==◌, ◌&&◌, ◌||◌, not, nat_le, nat_eq, Bool, false, List, [], ◌∷◌, length, take, drop, Option, Some, None, Result, Ok, Err, codes, if◌then◌else◌}
 use Rattle.std.specs.List.{list_all, starts_with, ends_with}
-use Rattle.lf_format.specs.Runs.{run, past}
+use Rattle.lf_spelling.specs.Runs.{run, past}
+use Rattle.lf_spelling.specs.Enclosed.{is_not}
 use Rattle.lf_format.specs.declared.slot.Absent.TheVariants.{Dash}
 use Rattle.lf_format.specs.declared.slot.Slot.{Slot}
-use Rattle.lf_format.specs.declared.fault.Cause.{Cause}
-use Rattle.lf_format.specs.declared.fault.Cause.TheVariants.{Unclosed, UnknownName, BadName}
+use Rattle.lf_spelling.specs.declared.fault.Cause.{Cause}
+use Rattle.lf_spelling.specs.declared.fault.Cause.TheVariants.{Unclosed, UnknownName, BadName}
 use Rattle.w3c_front.specs.declared.table.Language.{Language}
 use Rattle.w3c_front.specs.declared.table.Language.TheVariants.{Draft, Iis}
 use Rattle.w3c_front.specs.declared.table.Sort.{Sort}
 use Rattle.w3c_front.specs.declared.table.Sort.TheVariants.{Word}
 use Rattle.w3c_front.specs.Table.{prefixes, is_listed, sort_in, draft_fields, prefixed_fields, iis_fields, header_sort, kind_of, code_of, is_quoted}
-
--- any byte but the mark
-abbrev pub is_other : ℕ → ℕ → Bool
-is_other mark b = not (b == mark)
 
 -- all but the first byte, if there is one
 abbrev pub past_first : List ℕ → Option (List ℕ)
@@ -23,7 +20,7 @@ past_first (b ∷ text) = Some text
 
 -- what follows a prefix and the mark, where they begin the identifier
 abbrev pub past_prefix : Language → ℕ → List ℕ → Option (List ℕ)
-past_prefix language mark name = if is_listed (prefixes language) (run (is_other mark) name) then past_first (past (is_other mark) name) else None
+past_prefix language mark name = if is_listed (prefixes language) (run (is_not mark) name) then past_first (past (is_not mark) name) else None
 
 -- letters, digits, `-` and `_`
 abbrev pub is_own_byte : ℕ → Bool

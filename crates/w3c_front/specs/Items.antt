@@ -1,13 +1,13 @@
 -- What stands in a list of fields, and what is wrong where nothing does.
 use Rattle.std.specs.Prelude.{◌≡◌, ℕ, ◌≤◌, ◌==◌, ◌&&◌, ◌||◌, not, nat_eq, Bool, false, List, ◌∷◌, ◌++◌, length, Ok, Err, codes}
 use Rattle.std.specs.List.{starts_with}
-use Rattle.lf_format.specs.Runs.{run}
-use Rattle.lf_format.specs.Items.{Item}
-use Rattle.lf_format.specs.declared.fault.Cause.{Cause}
-use Rattle.lf_format.specs.declared.fault.Cause.TheVariants.{LineBreak}
+use Rattle.lf_spelling.specs.Runs.{run}
+use Rattle.lf_spelling.specs.Items.{Item}
+use Rattle.lf_spelling.specs.declared.fault.Cause.{Cause}
+use Rattle.lf_spelling.specs.declared.fault.Cause.TheVariants.{LineBreak}
 use Rattle.lf_format.specs.declared.slot.Slot.{Slot}
-use Rattle.lf_format.specs.declared.front.Given.{Given}
-use Rattle.lf_format.specs.declared.front.Given.TheVariants as given
+use Rattle.lf_spelling.specs.declared.front.Given.{Given}
+use Rattle.lf_spelling.specs.declared.front.Given.TheVariants as given
 use Rattle.w3c_front.specs.declared.front.Fields.{Fields}
 use Rattle.w3c_front.specs.declared.front.Place.{Place}
 use Rattle.w3c_front.specs.declared.front.Place.TheVariants.{Start, First, Later}

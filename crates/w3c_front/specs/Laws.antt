@@ -1,13 +1,13 @@
 -- At the front of a text stands one item, or none for one cause, and what an item gives is good.
-use Rattle.std.proofs.Common.{◌≡◌, ℕ, ◌≤◌, List, length, sym, subst, arith}
-use Rattle.lf_format.specs.Items.{Item}
-use Rattle.lf_format.specs.Fronts.{IsFront, KeepsItem, KeepsGiven, given_bytes}
+use Rattle.std.proofs.Common.{ℕ, ◌≤◌, List, length, sym, subst, arith}
+use Rattle.lf_spelling.specs.Items.{Item}
+use Rattle.lf_spelling.specs.Fronts.{IsFront, KeepsItem, KeepsGiven, given_bytes}
 use Rattle.w3c_front.specs.declared.front.Fields.{Fields}
 use Rattle.w3c_front.specs.declared.front.Place.{Place}
 use Rattle.w3c_front.specs.declared.front.Place.TheVariants.{Start, First, Later}
 use Rattle.w3c_front.specs.declared.table.Sort.{Sort}
 use Rattle.w3c_front.specs.Identifier.{slot_of}
-use Rattle.w3c_front.specs.Items.{heading, after_blanks, given_of, passed, taken, IsItem, blanks, heads, field}
+use Rattle.w3c_front.specs.Items.{given_of, IsItem, blanks, heads, field}
 use Rattle.w3c_front.specs.Reading.{reading, item_is, fault_is}
 use Rattle.w3c_front.specs.SlotLaws.{keeps_slot}
 use Rattle.w3c_front.specs.FrontLaws.{Fine, all_fine, Again, again, fails_again}
@@ -22,13 +22,14 @@ short_given Start name sort some = omega arith
 short_given First name sort some = omega arith
 short_given Later name sort some = some
 
-at_item : (item other : Item Fields) → item ≡ other → KeepsItem other → KeepsItem item
-at_item item other e h = subst (λ (x : Item Fields). KeepsItem x) (sym e) h
+-- the item keeps what items keep
+abbrev kept : Item Fields → Type 0
+kept item = KeepsItem item.bytes item.given
 
-item_keeps : (state : Fields) (item : Item Fields) (after : List ℕ) → IsItem state item after → KeepsItem item
-item_keeps state item after (blanks bytes h e) = at_item item (passed state bytes (after_blanks state.place)) e (record { good = tt; short = omega arith })
-item_keeps state item after (heads is e) = at_item item (passed state heading First) e (record { good = tt; short = omega arith })
-item_keeps state item after (field name sort h head is e) = at_item item (taken state name sort) e (record { good = good_given state.place name sort; short = short_given state.place name sort h.some })
+item_keeps : (state : Fields) (item : Item Fields) (after : List ℕ) → IsItem state item after → kept item
+item_keeps state item after (blanks bytes h e) = subst kept (sym e) (record { good = tt; short = omega arith })
+item_keeps state item after (heads is e) = subst kept (sym e) (record { good = tt; short = omega arith })
+item_keeps state item after (field name sort h head is e) = subst kept (sym e) (record { good = good_given state.place name sort; short = short_given state.place name sort h.some })
 
 pub laws : IsFront reading item_is fault_is
 unfolding Fine Again

@@ -6,3 +6,4 @@ pub mod Reading
 pub mod SlotLaws
 pub mod FrontLaws
 pub mod Laws
+pub mod PlaceLaws

@@ -1,11 +1,11 @@
 -- What a reader finds at the front of a text.
 use Rattle.std.specs.Prelude.{◌≡◌, ℕ, ◌==◌, Result, Ok, Err, List, [], ◌∷◌, drop, if◌then◌else◌}
-use Rattle.lf_format.specs.Items.{Item, Reading, Found, Failed}
-use Rattle.lf_format.specs.Runs.{run, past}
-use Rattle.lf_format.specs.declared.fault.Cause.{Cause}
-use Rattle.lf_format.specs.declared.fault.Cause.TheVariants.{LineBreak, EmptyFormat}
-use Rattle.lf_format.specs.declared.fault.ItemFault.{ItemFault}
-use Rattle.lf_format.specs.declared.fault.ItemFault.TheVariants as fault
+use Rattle.lf_spelling.specs.Items.{Item, Reading, Found, Failed}
+use Rattle.lf_spelling.specs.Runs.{run, past}
+use Rattle.lf_spelling.specs.declared.fault.Cause.{Cause}
+use Rattle.lf_spelling.specs.declared.fault.Cause.TheVariants.{LineBreak, EmptyFormat}
+use Rattle.lf_spelling.specs.declared.fault.ItemFault.{ItemFault}
+use Rattle.lf_spelling.specs.declared.fault.ItemFault.TheVariants as fault
 use Rattle.lf_format.specs.declared.slot.Slot.{Slot}
 use Rattle.w3c_front.specs.declared.front.Fields.{Fields}
 use Rattle.w3c_front.specs.declared.front.Place.TheVariants.{Start, First}

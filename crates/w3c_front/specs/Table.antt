@@ -5,9 +5,10 @@ use Rattle.std.specs.Str.{bytes_eq}
 use Rattle.lf_core.specs.declared.class.TheConstants.Class as classes
 use Rattle.lf_format.specs.declared.kind.Kind.{Kind}
 use Rattle.lf_format.specs.declared.kind.Kind.TheVariants as kind
-use Rattle.lf_format.specs.declared.kind.Coding.{Coding}
-use Rattle.lf_format.specs.declared.kind.Coding.TheVariants.{Raw, PlusSpace, Doubled}
+use Rattle.lf_escape.specs.declared.coding.Coding.{Coding}
+use Rattle.lf_escape.specs.declared.coding.Coding.TheVariants.{Raw, PlusSpace, Doubled}
 use Rattle.lf_format.specs.CommonKinds.{zero_fits, one_fits, texts, numbers}
+use Rattle.lf_spelling.specs.Numbers.{greatest}
 use Rattle.w3c_front.specs.declared.table.Language.{Language}
 use Rattle.w3c_front.specs.declared.table.Language.TheVariants.{Draft, Iis}
 use Rattle.w3c_front.specs.declared.table.Sort.{Sort}
@@ -76,10 +77,6 @@ is_listed names text = list_any (λ name. bytes_eq text name) names
 abbrev pub sort_in : List Entry → List ℕ → Option Sort
 sort_in [] name = None
 sort_in (entry ∷ entries) name = if is_listed entry.names name then Some entry.sort else sort_in entries name
-
--- the greatest number of 63 bits
-abbrev pub greatest : ℕ
-greatest = 9223372036854775807
 
 -- the kind that a sort of values is
 abbrev pub kind_of : Sort → Kind

@@ -1,9 +1,9 @@
 -- Formats as lists of fields: those of the draft, and those of IIS.
 use Rattle.std.specs.Prelude.{ℕ, true, List}
 use Rattle.lf_format.specs.Shape.{Shape}
-use Rattle.lf_format.specs.Spelling as spelling
+use Rattle.lf_spelling.specs.Spelling as spelling
 use Rattle.lf_format.specs.declared.format.LineEnd.TheVariants.{Lf, CrLf}
-use Rattle.lf_format.specs.declared.fault.Cause.{Cause}
+use Rattle.lf_spelling.specs.declared.fault.Cause.{Cause}
 use Rattle.w3c_front.specs.declared.table.Language.TheVariants.{Draft, Iis}
 use Rattle.w3c_front.specs.Reading.{start, item_is, fault_is}
 

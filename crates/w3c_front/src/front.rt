@@ -1,21 +1,21 @@
 //! The front itself: the items of a list of fields, and the reading of a whole text.
 
 ghost use Rattle.std.specs.Prelude.{◌≡◌, ◌≤◌, ◌<◌, ℕ, List, length, IfOk};
+ghost use Rattle.lf_limits.specs.Limits.{most_text_bytes};
 ghost use Rattle.std.specs.List.{prefix_len};
-ghost use Rattle.lf_format.specs.Cuts.{EndsText};
-ghost use Rattle.lf_format.specs.Fronts.{GivesItem};
-ghost use Rattle.lf_format.specs.Spelling.{AnswersFormat, AnswersFault};
+ghost use Rattle.lf_spelling.specs.Cuts.{EndsText};
+ghost use Rattle.lf_spelling.specs.Fronts.{GivesItem};
+ghost use Rattle.lf_spelling.specs.Spelling.{AnswersFormat, AnswersFault};
 ghost use Rattle.lf_format.specs.Shape.{Shape};
-ghost use Rattle.lf_format.specs.declared.fault.Cause.{Cause};
+ghost use Rattle.lf_spelling.specs.declared.fault.Cause.{Cause};
 ghost use Rattle.w3c_front.specs.Items.{is_blank, is_inner, has_heading, after_blanks, given_of};
 ghost use Rattle.w3c_front.specs.Reading.{start};
 ghost use Rattle.w3c_front.specs.W3c.{SpellsDraft, IsFaultyDraft, HasOneDraftAnswer, SpellsIis, IsFaultyIis, HasOneIisAnswer};
 
 use crate::identifier::slot;
 use crate::table::Language;
-use lf_format::{
-    Cause, Format, FormatFault, Front, Given, ItemFault, LineEnd, Slot, Taken, read_text,
-};
+use lf_format::{Format, LineEnd, Slot};
+use lf_spelling::{Cause, FormatFault, Front, Given, ItemFault, Taken, read_text};
 use std::alloc::Global;
 
 /// What may stand at the first byte of a text.
@@ -51,23 +51,13 @@ fn is_inner(b: u8) -> bool
 fn blank_run(text: &[u8]) -> usize
     ensures { result ≡ prefix_len is_blank text.now }
 {
-    for (i, b) in text.iter().enumerate() {
-        if !is_blank(*b) {
-            return i;
-        }
-    }
-    text.len()
+    text.iter().take_while(|b| is_blank(**b)).count()
 }
 
 fn identifier_run(text: &[u8]) -> usize
     ensures { result ≡ prefix_len is_inner text.now }
 {
-    for (i, b) in text.iter().enumerate() {
-        if !is_inner(*b) {
-            return i;
-        }
-    }
-    text.len()
+    text.iter().take_while(|b| is_inner(**b)).count()
 }
 
 fn has_heading(place: Place, text: &[u8]) -> bool
@@ -152,7 +142,7 @@ fn start(language: Language) -> Fields
 
 /// The format that a list of the draft's fields spells, or its first fault.
 pub fn parse_draft(alloc: Global, text: &str) -> Result<Format, FormatFault>
-    requires { length text.now ≤ 1048576 }
+    requires { length text.now ≤ most_text_bytes }
     // What is answered is so.
     ensures spelled { IfOk result (λ format. SpellsDraft text.now format) }
     ensures faulty { (place : ℕ) (cause : Cause) → result ≡ Err (FormatFault.At place cause) → IsFaultyDraft text.now place cause }
@@ -166,7 +156,7 @@ pub fn parse_draft(alloc: Global, text: &str) -> Result<Format, FormatFault>
 
 /// The format that a list of the fields of IIS spells, or its first fault.
 pub fn parse_iis(alloc: Global, text: &str) -> Result<Format, FormatFault>
-    requires { length text.now ≤ 1048576 }
+    requires { length text.now ≤ most_text_bytes }
     // What is answered is so.
     ensures spelled { IfOk result (λ format. SpellsIis text.now format) }
     ensures faulty { (place : ℕ) (cause : Cause) → result ≡ Err (FormatFault.At place cause) → IsFaultyIis text.now place cause }
@@ -182,12 +172,12 @@ pub fn parse_iis(alloc: Global, text: &str) -> Result<Format, FormatFault>
 pub fn one_draft_answer()
     ensures { (text : List ℕ) → HasOneDraftAnswer text }
 {
-    lf_format::one_answer(&start(Language::Draft));
+    lf_spelling::one_answer(&start(Language::Draft));
 }
 
 /// Each list of the fields of IIS spells one format, or it has one first fault.
 pub fn one_iis_answer()
     ensures { (text : List ℕ) → HasOneIisAnswer text }
 {
-    lf_format::one_answer(&start(Language::Iis));
+    lf_spelling::one_answer(&start(Language::Iis));
 }

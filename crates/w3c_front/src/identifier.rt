@@ -1,12 +1,12 @@
 //! An identifier: what it stands for, or what is wrong with it.
 
 ghost use Rattle.std.specs.Prelude.{◌≡◌, nat_eq};
-ghost use Rattle.std.specs.List.{list_all, prefix_len};
+ghost use Rattle.std.specs.List.{list_all};
 ghost use Rattle.std.specs.Option.{option_copied};
 ghost use Rattle.std.specs.Str.{IsUtf8};
 ghost use Rattle.w3c_front.specs.declared.table.Sort.{Sort};
 ghost use Rattle.w3c_front.specs.Table.{prefixes};
-ghost use Rattle.w3c_front.specs.Identifier.{is_other, past_prefix, is_own_byte, is_own, prefixed_sort, draft_sort, sort_of, is_inside, is_header_name, header_of, field_of, slot_of};
+ghost use Rattle.w3c_front.specs.Identifier.{past_prefix, is_own_byte, is_own, prefixed_sort, draft_sort, sort_of, is_inside, is_header_name, header_of, field_of, slot_of};
 ghost use Rattle.w3c_front.specs.Reading.{GivesSlot};
 
 use crate::table::{
@@ -14,26 +14,15 @@ use crate::table::{
     prefixed_field,
 };
 use lf_core::{OutOfMemory, Str};
-use lf_format::{Absent, Cause, ItemFault, Slot};
+use lf_format::{Absent, Slot};
+use lf_spelling::{Cause, ItemFault, cut_before};
 use std::alloc::Global;
-
-/// How many bytes stand before the mark.
-fn other_run(mark: u8, text: &[u8]) -> usize
-    ensures { result ≡ prefix_len (is_other mark) text.now }
-{
-    for (i, b) in text.iter().enumerate() {
-        if *b == mark {
-            return i;
-        }
-    }
-    text.len()
-}
 
 /// What follows a prefix and the mark, where they begin the identifier.
 fn past_prefix(language: Language, mark: u8, name: &[u8]) -> Option<&[u8]>
     ensures { option_copied result ≡ past_prefix language mark name.now }
 {
-    let (prefix, marked) = name.split_at(other_run(mark, name));
+    let (prefix, marked) = cut_before(name, mark);
     if !is_prefix(language, prefix) {
         return None;
     }
@@ -44,11 +33,7 @@ fn past_prefix(language: Language, mark: u8, name: &[u8]) -> Option<&[u8]>
 fn is_own_byte(b: u8) -> bool
     ensures { result ≡ is_own_byte b }
 {
-    (b'A' <= b && b <= b'Z')
-        || (b'a' <= b && b <= b'z')
-        || (b'0' <= b && b <= b'9')
-        || b == b'-'
-        || b == b'_'
+    b.is_ascii_alphanumeric() || b == b'-' || b == b'_'
 }
 
 fn are_own_bytes(text: &[u8]) -> bool

@@ -3,9 +3,8 @@
 
 mod front;
 mod identifier;
+mod laws;
 mod table;
 
 pub use front::{one_draft_answer, one_iis_answer, parse_draft, parse_iis};
-
-#[cfg(test)]
-mod tests;
+pub use laws::no_return;

@@ -37,15 +37,7 @@ pub fn is_prefix(language: Language, text: &[u8]) -> bool
     ensures { result ≡ is_listed (prefixes language) text.now }
 {
     match language {
-        Language::Draft => {
-            text == b"c".as_slice()
-                || text == b"s".as_slice()
-                || text == b"r".as_slice()
-                || text == b"cs".as_slice()
-                || text == b"sc".as_slice()
-                || text == b"sr".as_slice()
-                || text == b"rs".as_slice()
-        }
+        Language::Draft => matches!(text, b"c" | b"s" | b"r" | b"cs" | b"sc" | b"sr" | b"rs"),
         Language::Iis => text == b"cs".as_slice(),
     }
 }

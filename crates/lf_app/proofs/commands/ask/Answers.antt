@@ -1,16 +1,9 @@
-use Rattle.std.proofs.Common.{◌≡◌, ℕ, true, List, refl, sym, subst, ap, ◌∙◌}
-use Rattle.std.proofs.lemmas.Result.{IfOk-weaker}
-use Rattle.lf_compile.specs.Accepted.{IsCauseOf, IsTooLarge, IsRefusedNote, IsRefusedConfusion}
-use Rattle.lf_compile.specs.declared.refused.Confusion.{Confusion}
-use Rattle.lf_compile.specs.declared.refused.Refused.{Refused}
-use Rattle.lf_compile.specs.declared.refused.Refused.TheVariants as causes
-use Rattle.lf_core.specs.declared.values.Value.{Value}
-use Rattle.lf_format.specs.Shape.{Shape}
+use Rattle.std.proofs.Common.{◌≡◌, refl, sym, subst}
 use Rattle.lf_words.specs.declared.command.Verb.{Verb}
-use Rattle.lf_words.specs.declared.command.Verb.TheVariants as verbs
-use Rattle.lf_app.specs.declared.commands.Command.TheVariants.{Lines, Show}
+use Rattle.lf_app.specs.declared.commands.Command.TheVariants.{Lines, Show, Refuse}
 use Rattle.lf_app.specs.declared.commands.Job.TheVariants as jobs
-use Rattle.lf_app.specs.Commands.{IsAsked, IsRefusedFor, is_compiling, accepted_command, plain, accepted, refused}
+use Rattle.lf_app.specs.declared.commands.Refusal.TheVariants.{NotBuilt}
+use Rattle.lf_app.specs.Commands.{IsAsked, plain}
 use Rattle.lf_app.proofs.commands.ask.Goals as goal
 
 pub returns-in-Write : goal.returns-in-Write
@@ -19,33 +12,8 @@ returns-in-Write c = subst (λ (v : Verb). IsAsked v c.args._source.now (Lines (
 pub returns-in-Show : goal.returns-in-Show
 returns-in-Show c = subst (λ (v : Verb). IsAsked v c.args._source.now (Show c.args.format)) (sym c.in-Show.is) (plain c.args.format c.requires refl refl)
 
-compiling : (v : Verb) → (v ≡ verbs.Write → ⊥) → (v ≡ verbs.Show → ⊥) → is_compiling v ≡ true
-compiling verbs.Check w s = refl
-compiling verbs.Read w s = refl
-compiling verbs.Write w s = absurd (w refl)
-compiling verbs.Translate w s = refl
-compiling verbs.Show w s = absurd (s refl)
-compiling verbs.Gen w s = refl
+pub returns-in-Translate : goal.returns-in-Translate
+returns-in-Translate c = subst (λ (v : Verb). IsAsked v c.args._source.now (Refuse NotBuilt)) (sym c.in-Translate.is) (plain c.args.format c.requires refl refl)
 
-cause_of : (format : Shape) (cause : Refused)
-    → ((size : ℕ) → cause ≡ causes.TooLarge size → IsTooLarge format size)
-    → ((rec : List Value) → cause ≡ causes.Hash rec → IsRefusedNote format rec)
-    → ((confusion : Confusion) → cause ≡ causes.Ambiguous confusion → IsRefusedConfusion format confusion)
-    → IsCauseOf format cause
-cause_of format (causes.TooLarge size) a b d = a size refl
-cause_of format (causes.Hash rec) a b d = b rec refl
-cause_of format (causes.Ambiguous confusion) a b d = d confusion refl
-cause_of format causes.OutOfMemory a b d = tt
-
-pub returns-in-Ok : goal.returns-in-Ok
-returns-in-Ok c =
-    let v = c.args.verb in
-    accepted c.args.format c.requires (compiling v c.in_default.not-Write c.in_default.not-Show) c.in-Ok.ensures.ok (c.accepted.ensures ∙ ap (accepted_command v) c.in-Ok.ensures.same)
-
-pub returns : goal.returns
-returns c =
-    let v = c.args.verb in
-    let e = c.in-Err.ensures in
-    let why = c.in-Err.field-0.cause in
-    let cause = cause_of c.args.format why e.too_large e.hash e.ambiguous in
-    IfOk-weaker c.refused.result (IsRefusedFor v why) (IsAsked v c.args._source.now) (λ command h. refused c.args.format why c.requires (compiling v c.in_default.not-Write c.in_default.not-Show) cause h) c.refused.ensures
+pub returns-in-Gen : goal.returns-in-Gen
+returns-in-Gen c = subst (λ (v : Verb). IsAsked v c.args._source.now (Refuse NotBuilt)) (sym c.in-Gen.is) (plain c.args.format c.requires refl refl)

@@ -2,4 +2,5 @@ use Rattle.lf_app.proofs.Deciding.{one_outcome}
 use Rattle.lf_app.proofs.laws.command_has_one_outcome.Goals as goal
 
 pub returns : goal.returns
-returns c = λ words command is kept input. one_outcome words command input c.lines_have_one_reading.ensures.some c.lines_are_decided.ensures kept is
+returns c = λ words command is input.
+    one_outcome words command input c.lines_have_one_reading.ensures.some c.lines_are_decided.ensures c.format_is_a_word.ensures c.spelled_keeps.ensures is

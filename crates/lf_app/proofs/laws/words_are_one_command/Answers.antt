@@ -1,5 +1,6 @@
-use Rattle.lf_app.proofs.CommandLaws.{command_one}
+use Rattle.lf_app.proofs.CommandLaws.{words_one}
 use Rattle.lf_app.proofs.laws.words_are_one_command.Goals as goal
 
 pub returns : goal.returns
-returns c = λ words command other p q. command_one words command other c.one_answer-2.ensures c.one_answer.ensures p q
+returns c = λ words.
+    words_one words c.words_are_one_command_or_bad.ensures c.format_is_a_word.ensures c.one_answer.ensures c.spelled_keeps.ensures c.one_answer-2.ensures c.some_answer.ensures

@@ -1,9 +1,9 @@
-use Rattle.std.proofs.Common.{◌++◌, refl}
+use Rattle.std.proofs.Common.{◌≡◌, ℕ, ◌≤◌, ◌⊎◌, ◌++◌, refl, sym, subst, arith, inl}
 use Rattle.std.specs.Prelude.{codes}
 use Rattle.std.specs.Fmt.{decimal}
 use Rattle.lf_app.specs.declared.commands.Command.TheVariants.{Readable, Witness, Show, Refuse}
 use Rattle.lf_app.specs.Outcome.{told_out, told_err, shown, witness_text, refusal_text, refusal_status}
-use Rattle.lf_app.proofs.RunLaws.{runs_text_out, runs_text_err, told_readable, told_witness, told_shown, told_refused}
+use Rattle.lf_app.proofs.RunLaws.{runs_text_out, runs_text_err, told_readable, told_witness, told_shown, told_refused, good_status, tells_out, tells_err}
 use Rattle.lf_app.proofs.running.answer.Goals as goal
 
 pub returns-in-Readable-clause-runs : goal.returns-in-Readable-clause-runs
@@ -32,3 +32,22 @@ returns-in-Refuse-clause-runs g c =
     let tell = c.tell_text-in-Refuse in
     let runs = runs_text_err (Refuse refusal) (told_err (refusal_status refusal) (refusal_text refusal)) tell.result.0 (g.S.Source.left c.args.input.now) (g.O.Sink.got c.args.out.now) c.refusal_text.result _ (told_refused refusal) refl c.refusal_text.ensures (rw (← c.refusal_status.ensures) tell.ensures.says) in
     rw c.in-Refuse.is runs
+
+pub returns-in-Readable-clause-tells : goal.returns-in-Readable-clause-tells
+returns-in-Readable-clause-tells g c = tells_out 0 _ _ _ _ _ _ _ (inl (omega arith)) c.tell_text.ensures.says c.tell_text.ensures.faults
+
+pub returns-in-Witness-clause-tells : goal.returns-in-Witness-clause-tells
+returns-in-Witness-clause-tells g c =
+    let tell = c.tell_text-in-Witness in
+    tells_out 1 _ _ _ _ _ _ _ (inl (omega arith)) tell.ensures.says tell.ensures.faults
+
+pub returns-in-Show-clause-tells : goal.returns-in-Show-clause-tells
+returns-in-Show-clause-tells g c =
+    let tell = c.tell_text-in-Show in
+    tells_out 0 _ _ _ _ _ _ _ (inl (omega arith)) tell.ensures.says tell.ensures.faults
+
+pub returns-in-Refuse-clause-tells : goal.returns-in-Refuse-clause-tells
+returns-in-Refuse-clause-tells g c =
+    let tell = c.tell_text-in-Refuse in
+    let good = subst (λ (n : ℕ). (n ≤ 3) ⊎ (n ≡ 7)) (sym c.refusal_status.ensures) (good_status c.in-Refuse.refusal) in
+    tells_err c.refusal_status.result _ _ _ _ _ _ _ good tell.ensures.says tell.ensures.faults

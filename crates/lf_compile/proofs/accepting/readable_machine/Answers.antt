@@ -1,6 +1,13 @@
-use Rattle.std.proofs.Common.{subst}
+use Rattle.std.proofs.Common.{◌≡◌, arith, ap, subst}
 use Rattle.lf_format.specs.Lines.{IsReadable}
+use Rattle.lf_format.specs.Size.{size_of}
 use Rattle.lf_compile.proofs.accepting.readable_machine.Goals as goal
+
+pub distances-requires : goal.distances-requires
+distances-requires c =
+    let small = c.is_small.ensures in
+    let same = ap size_of c.in_ok-machine.ensures in
+    omega (arith, small, same, c.requires)
 
 pub returns-in-None-clause-ok : goal.returns-in-None-clause-ok
 returns-in-None-clause-ok c = record {

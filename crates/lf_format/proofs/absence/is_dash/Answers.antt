@@ -2,7 +2,7 @@ use Rattle.std.proofs.Common.{◌∙◌, sym, rules}
 use Rattle.std.specs.Prelude.{FitsSigned}
 use Rattle.std.specs.Int.{w64}
 use Rattle.std.proofs.lemmas.Bool.{false≢true}
-use Rattle.lf_format.proofs.PlainTexts.{dash-tells, no-dash}
+use Rattle.lf_format.specs.PlainTextLaws.{dash-tells, no-dash}
 use Rattle.lf_format.proofs.absence.is_dash.Goals as goal
 
 pub returns-then-prints_dash : goal.returns-then-prints_dash

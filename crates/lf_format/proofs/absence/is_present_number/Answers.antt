@@ -3,7 +3,7 @@ use Rattle.lf_core.specs.declared.values.Value.TheVariants.{Num}
 use Rattle.lf_format.specs.declared.slot.Absent.{Absent}
 use Rattle.lf_format.specs.Kinds.{plain_text}
 use Rattle.lf_format.specs.Slots.{IsNotAbsence}
-use Rattle.lf_format.proofs.PlainTexts.{number-some}
+use Rattle.lf_format.specs.PlainTextLaws.{number-some}
 use Rattle.lf_format.proofs.absence.is_present_number.Goals as goal
 
 pub returns-in-Blank : goal.returns-in-Blank

@@ -3,7 +3,7 @@ use Rattle.std.specs.Prelude.{FitsSigned}
 use Rattle.std.specs.Int.{w64}
 use Rattle.lf_format.specs.declared.kind.Kind.{Kind}
 use Rattle.lf_format.proofs.SomeValues.{IsTop, top-decides, texts-decide, words-decide, query-some, read-back}
-use Rattle.lf_format.proofs.TimeValues.{IsTime, times-decide}
+use Rattle.lf_format.specs.TimeValueLaws.{IsTime, times-decide}
 use Rattle.lf_format.proofs.some.has_present.Goals as goal
 
 pub returns-in-Num : goal.returns-in-Num

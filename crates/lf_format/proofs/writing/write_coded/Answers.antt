@@ -1,7 +1,7 @@
 use Rattle.std.proofs.Common.{◌≡◌, ◌++◌, List, ℕ, sym, ap, subst, ◌∙◌, true}
 use Rattle.std.specs.Prelude.{All}
 use Rattle.lf_core.specs.Adds.{AddsFront}
-use Rattle.lf_format.specs.Codings.{coding_takes}
+use Rattle.lf_escape.specs.Codings.{coding_takes}
 use Rattle.lf_format.specs.Kinds.{plain_text}
 use Rattle.lf_format.proofs.Adding.{ok-as, err-as}
 use Rattle.lf_format.proofs.Coded.{raw-coded}

@@ -1,7 +1,7 @@
 use Rattle.std.proofs.Common.{◌++◌, List, ℕ, take, drop, sym, ap, subst, ◌∙◌, append_assoc}
 use Rattle.lf_core.specs.Adds.{AddsFront}
 use Rattle.lf_escape.specs.Codes.{coded}
-use Rattle.lf_format.specs.Codings.{coding_word}
+use Rattle.lf_escape.specs.Codings.{coding_word}
 use Rattle.lf_format.proofs.Adding.{on-err, adds-none, adds-more, coded-more, coded-front}
 use Rattle.lf_format.proofs.writing.write_words.Goals as goal
 

@@ -1,6 +1,6 @@
 use Rattle.std.proofs.Common.{◌≡◌, ◌++◌, take}
 use Rattle.lf_escape.specs.Codes.{coded}
-use Rattle.lf_format.specs.Codings.{coding_word}
+use Rattle.lf_escape.specs.Codings.{coding_word}
 use Rattle.lf_format.proofs.writing.write_words.Given as goal
 
 abbrev pub invariant-loop-letter : goal.invariant-loop-letter

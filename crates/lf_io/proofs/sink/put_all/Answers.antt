@@ -1,4 +1,4 @@
-use Rattle.std.proofs.Common.{◌++◌, arith, take}
+use Rattle.std.proofs.Common.{◌++◌, ◌∙◌, take}
 use Rattle.lf_io.proofs.Parts.{split_more, gets_both}
 use Rattle.lf_io.proofs.sink.put_all.Goals as goal
 
@@ -9,5 +9,5 @@ loop-rest-preserved g c =
     let n = c.in-Took.count in
     let rest = c.loop-rest.rest.now in (
       (now.0.0 ++ take n rest, rw c.split_at.ensures.back (split_more c.args.text.now now.0.0 rest n now.0.1), gets_both _ _ _ _ _ now.0.2 step.bytes.2),
-      omega (arith, step.faults.later),
+      step.faults.kept (λ e. cc) ∙ now.1,
     )

@@ -1,8 +1,8 @@
 use Rattle.std.proofs.Common.{◌≡◌, ℕ, arith, rules, ◌<◌, ◌≤◌, ◌+◌, ◌*◌, ◌∙◌, ap, length, subst, replicate, List, []}
 use Rattle.std.proofs.lemmas.List.{length-map, nil_from_length}
 use Rattle.lf_product.specs.declared.search.TheConstants.{NONE}
-use Rattle.lf_product.specs.declared.limits.TheConstants.{MOST_POINTS}
-use Rattle.lf_product.specs.declared.search.Pair.{Pair}
+use Rattle.lf_limits.specs.Limits.{most_size}
+use Rattle.lf_product.specs.declared.pair.Pair.{Pair}
 use Rattle.lf_core.specs.Written.{machine_of}
 use Rattle.lf_product.specs.Level.{Reached, AllBefore, room}
 use Rattle.lf_product.proofs.Places.{steps_at-replicate}
@@ -18,7 +18,7 @@ first_level-requires-clause-none c =
 pub levels-preserved : goal.levels-preserved
 levels-preserved c =
     let m = machine_of c.args.table.now in
-    let fit : c.levels.steps + 1 < NONE = steps_fit m.count c.levels.steps (room NONE c.levels.distances.items c.levels.level.items) MOST_POINTS NONE c.requires.few c.levels.invariant.few (omega arith) in
+    let fit : c.levels.steps + 1 < NONE = steps_fit m.count c.levels.steps (room NONE c.levels.distances.items c.levels.level.items) most_size NONE c.requires.few c.levels.invariant.few (omega arith) in
     let some : 0 < length c.levels.level.items = search rules in
     let same : room NONE c.next_level.new.distances.items c.in_ok-level-2.level.items ≡ room NONE c.levels.distances.items [] = c.in_ok-level-2.ensures.room in
     let old : c.levels.steps + room NONE c.levels.distances.items c.levels.level.items ≤ m.count * (m.count + 1) = c.levels.invariant.few in
@@ -34,7 +34,7 @@ pub returns-clause-exact : goal.returns-clause-exact
 returns-clause-exact c =
     let m = machine_of c.args.table.now in
     let empty : c.levels.level.items ≡ [] = nil_from_length c.levels.level.items (search rules) in
-    let fit : c.levels.steps + 1 < NONE = steps_fit m.count c.levels.steps (room NONE c.levels.distances.items c.levels.level.items) MOST_POINTS NONE c.requires.few c.levels.invariant.few (omega arith) in
+    let fit : c.levels.steps + 1 < NONE = steps_fit m.count c.levels.steps (room NONE c.levels.distances.items c.levels.level.items) most_size NONE c.requires.few c.levels.invariant.few (omega arith) in
     exact m NONE c.levels.steps c.levels.distances.items c.requires.lawful (omega (arith, fit))
     (subst (λ (ps : List Pair). Reached m m.count NONE c.levels.steps c.levels.distances.items ps) empty c.levels.invariant.reached)
     c.levels.invariant.complete

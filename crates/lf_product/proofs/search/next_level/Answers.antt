@@ -1,6 +1,6 @@
 use Rattle.std.proofs.Common.{ℕ, arith, ◌+◌, [], get_or, inl, inr, subst, List, false}
 use Rattle.std.proofs.lemmas.List.Elements.{Contains-get_or}
-use Rattle.lf_product.specs.declared.search.Pair.{Pair}
+use Rattle.lf_product.specs.declared.pair.Pair.{Pair}
 use Rattle.lf_product.specs.declared.search.TheConstants.{NONE}
 use Rattle.lf_core.specs.Written.{machine_of}
 use Rattle.lf_product.specs.Level.{AreBefore}

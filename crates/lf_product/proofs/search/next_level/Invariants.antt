@@ -1,6 +1,6 @@
 use Rattle.std.proofs.Common.{◌+◌, [], take}
 use Rattle.std.specs.List.{Contains}
-use Rattle.lf_product.specs.declared.search.Pair.{Pair}
+use Rattle.lf_product.specs.declared.pair.Pair.{Pair}
 use Rattle.lf_product.specs.declared.search.TheConstants.{NONE}
 use Rattle.lf_core.specs.Written.{machine_of}
 use Rattle.lf_product.specs.Level.{AreBefore, Going}

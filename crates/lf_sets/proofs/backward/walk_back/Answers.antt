@@ -2,7 +2,7 @@ use Rattle.std.proofs.Common.{◌≡◌, ℕ, ◌+◌, ◌-◌, ◌<◌, List, [
 use Rattle.std.proofs.lemmas.List.{drop_all}
 use Rattle.lf_core.specs.Marked.{Machine}
 use Rattle.lf_sets.specs.declared.forest.Node.{Node}
-use Rattle.lf_sets.specs.Reached.{IsEndingRun}
+use Rattle.lf_core.specs.Runs.{RunsToEnd}
 use Rattle.lf_sets.specs.Forests.{point_at, before_at, IsTrail}
 use Rattle.lf_sets.proofs.Levels.{trail_below, trail_step, walk_more}
 use Rattle.lf_sets.proofs.backward.walk_back.Goals as goal
@@ -15,7 +15,7 @@ loop-k-init g c =
     record {
       trail = subst (λ (n : ℕ). IsTrail m c.args.points.now c.args.block.now c.args.nodes.now n c.args.end) (sym whole) c.requires;
       below = trail_below m c.args.points.now c.args.block.now c.args.nodes.now (length c.args.block.now) c.args.end c.requires;
-      ends = λ rest h. subst (λ (bs : List ℕ). IsEndingRun m (point_at c.args.nodes.now c.args.end) (bs ++ rest) (reverse c.args.back.now.items)) (sym none) h;
+      ends = λ rest h. subst (λ (bs : List ℕ). RunsToEnd m (point_at c.args.nodes.now c.args.end) (bs ++ rest) (reverse c.args.back.now.items)) (sym none) h;
     }
 
 pub loop-k-preserved : goal.loop-k-preserved
@@ -34,5 +34,5 @@ loop-k-preserved g c =
       trail = rest_of;
       below = trail_below m points block nodes left (before_at nodes at) rest_of;
       ends = λ rest h. walk_more m points block nodes left at rest c.loop-k.back.items c.push.new.self.items (omega (arith, lt)) trail c.in_ok-push.ensures.items
-          (subst (λ (n : ℕ). IsEndingRun m (point_at nodes at) (drop n block ++ rest) (reverse c.loop-k.back.items)) next (c.loop-k.invariant.ends rest h));
+          (subst (λ (n : ℕ). RunsToEnd m (point_at nodes at) (drop n block ++ rest) (reverse c.loop-k.back.items)) next (c.loop-k.invariant.ends rest h));
     }

@@ -4,14 +4,15 @@ use Rattle.std.specs.declared.alloc.Global.{Global}
 use Rattle.std.proofs.lemmas.Bool.{cases_lt}
 use Rattle.std.proofs.lemmas.List.{get_or_append_left, get_or_push}
 use Rattle.lf_core.specs.Marked.{Machine, IsMachine}
+use Rattle.lf_core.specs.Written.{machine_of}
 use Rattle.lf_witness.specs.Sets.{AreEnding}
 use Rattle.lf_witness.proofs.Endings.{sets_more}
 use Rattle.lf_witness.proofs.sets.sets_of.Goals as goal
 
 pub loop-k-preserved : goal.loop-k-preserved
-loop-k-preserved g c =
-    let m : Machine = g.M.Marked.machine c.args.m.now in
-    let lawful : IsMachine m = g.met.M.Marked.laws c.args.m.now in
+loop-k-preserved c =
+    let m : Machine = machine_of c.args.table.now in
+    let lawful : IsMachine m = c.requires in
     let line : List ℕ = c.args.line.now in
     let old : length c.loop-k.sets.items ≡ c.loop-k.k + 1 = c.loop-k.invariant.len in
     let is : c.push-in-loop-k.new.self.items ≡ c.loop-k.sets.items ++ c.in_ok-set.set ∷ [] = search rules in

@@ -1,5 +1,5 @@
 use Rattle.std.proofs.Common.{refl, ◌∙◌}
-use Rattle.lf_format.proofs.RunCuts.{run_taken}
+use Rattle.lf_spelling.specs.RunLaws.{run_taken}
 use Rattle.nginx_front.specs.Variables.{is_word}
 use Rattle.nginx_front.proofs.Names.{bare_gives}
 use Rattle.nginx_front.proofs.variable.bare.Goals as goal

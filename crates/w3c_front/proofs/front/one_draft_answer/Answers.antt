@@ -1,5 +1,5 @@
 use Rattle.std.proofs.Common.{true, subst}
-use Rattle.lf_format.specs.Spelling as spelling
+use Rattle.lf_spelling.specs.Spelling as spelling
 use Rattle.lf_format.specs.declared.format.LineEnd.TheVariants.{Lf}
 use Rattle.w3c_front.specs.declared.front.Fields.{Fields}
 use Rattle.w3c_front.specs.Reading.{item_is, fault_is}

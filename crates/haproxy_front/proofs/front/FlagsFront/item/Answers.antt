@@ -1,8 +1,8 @@
 use Rattle.std.proofs.Common.{◌≡◌, ◌+◌, ℕ, List, ◌∷◌, Ok, sym, ap, refl, subst, ◌∙◌, arith}
-use Rattle.lf_format.specs.Fronts.{GivesItem}
-use Rattle.lf_format.specs.declared.front.Given.TheVariants.{Byte}
-use Rattle.lf_format.specs.declared.front.Taken.{Taken}
-use Rattle.lf_format.proofs.RunCuts.{run_taken}
+use Rattle.lf_spelling.specs.Fronts.{GivesItem}
+use Rattle.lf_spelling.specs.declared.front.Given.TheVariants.{Byte}
+use Rattle.lf_spelling.specs.declared.front.Taken.{Taken}
+use Rattle.lf_spelling.specs.RunLaws.{run_taken}
 use Rattle.haproxy_front.specs.Items.{is_space}
 use Rattle.haproxy_front.specs.Reading.{reading}
 use Rattle.haproxy_front.proofs.Cuts.{spaces_taken}

@@ -1,5 +1,5 @@
 use Rattle.std.proofs.Common.{◌≡◌, ◌<◌, ◌∙◌, length, map, subst, sym, ap, List, ℕ}
-use Rattle.lf_format.specs.Codings.{coding_takes, coding_word}
+use Rattle.lf_escape.specs.Codings.{coding_takes, coding_word}
 use Rattle.lf_code_table.specs.Lone.{lone_of, HasFirsts}
 use Rattle.lf_code_table.specs.Table.{table_of}
 use Rattle.lf_code_table.proofs.TableSizes.{table-range}

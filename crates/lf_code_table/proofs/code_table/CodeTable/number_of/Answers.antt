@@ -1,6 +1,6 @@
 use Rattle.std.proofs.Common.{◌≡◌, ◌<◌, ◌∷◌, [], length, None, sym, subst, ◌∙◌, arith}
 use Rattle.std.proofs.lemmas.List.{get_or_default}
-use Rattle.lf_format.specs.declared.kind.Coding.{Coding}
+use Rattle.lf_escape.specs.declared.coding.Coding.{Coding}
 use Rattle.lf_code_table.specs.Table.{table_of, index_of}
 use Rattle.lf_code_table.specs.Prefixes.{index-there}
 use Rattle.lf_code_table.proofs.code_table.CodeTable.number_of.Goals as goal

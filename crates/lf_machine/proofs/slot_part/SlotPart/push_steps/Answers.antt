@@ -1,9 +1,9 @@
 use Rattle.std.proofs.Common.{◌≡◌, ◌∙◌, ◌++◌, ◌∷◌, [], length, ap, sym, List, ℕ}
 use Rattle.std.specs.List.{flat_map}
 use Rattle.lf_core.specs.declared.marked.Move.{Move}
-use Rattle.lf_format.specs.Codings.{coding_takes, coding_word}
+use Rattle.lf_escape.specs.Codings.{coding_takes, coding_word}
 use Rattle.lf_format.specs.Kinds.{kind_machine}
-use Rattle.lf_format.specs.declared.kind.Coding.{Coding}
+use Rattle.lf_escape.specs.declared.coding.Coding.{Coding}
 use Rattle.lf_format.specs.declared.slot.Slot.{Slot}
 use Rattle.lf_code_table.specs.Endings.{letters_ending}
 use Rattle.lf_code_table.specs.Lone.{lone_of}

@@ -2,8 +2,8 @@ use Rattle.std.proofs.Common.{◌≡◌, ◌%◌, ◌∙◌, ℕ, [], get_or, le
 use Rattle.std.proofs.Math.Nat.{mod-one}
 use Rattle.lf_code_table.specs.Prefixes.{index-there, table-root}
 use Rattle.lf_code_table.specs.Table.{table_of}
-use Rattle.lf_format.specs.Codings.{coding_takes, coding_word}
-use Rattle.lf_format.specs.declared.kind.Coding.{Coding}
+use Rattle.lf_escape.specs.Codings.{coding_takes, coding_word}
+use Rattle.lf_escape.specs.declared.coding.Coding.{Coding}
 use Rattle.lf_format.specs.declared.slot.Slot.{Slot}
 use Rattle.lf_machine.proofs.slot_part.SlotPart.read_at.Goals as goal
 

@@ -7,7 +7,7 @@ use Rattle.lf_product.proofs.pairs.Pairs.ambiguous.Goals as goal
 pub returns : goal.returns
 returns c =
     let m : Machine = machine_of c.args.self.now in
-    let start : c.self.inside.start ≡ c.args.self.now.start = c.self.invariant.start_is ∙ ap (λ (w : WrittenMachine). w.start) c.self.view_is in (
-      λ t. ambiguous_if_some m c.self.inside.start c.distance.result start c.distance.ensures (sym c.is_some.ensures ∙ t),
-      λ a. c.is_some.ensures ∙ some_if_ambiguous m c.self.inside.start c.distance.result start c.distance.ensures a,
+    let start : c.start-start.result ≡ c.args.self.now.start = c.start-start.ensures ∙ ap (λ (w : WrittenMachine). w.start) c.self.view_is in (
+      λ t. ambiguous_if_some m c.start-start.result c.distance.result start c.distance.ensures (sym c.is_some.ensures ∙ t),
+      λ a. c.is_some.ensures ∙ some_if_ambiguous m c.start-start.result c.distance.result start c.distance.ensures a,
     )

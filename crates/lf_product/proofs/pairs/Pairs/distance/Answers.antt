@@ -12,7 +12,7 @@ use Rattle.lf_product.proofs.pairs.Pairs.distance.Goals as goal
 pub index-steps-requires : goal.index-steps-requires
 index-steps-requires c =
     let p = c.self.inside in
-    let m : Machine = machine_of p.table.value in
+    let m : Machine = machine_of p.table in
     let n : m.count ≡ points_of c.args.self.now = ap (λ (k : WrittenMachine). points_of k) c.self.view_is in
     let lt : c.place.result < length p.distances.items = inside m p.distances.items c.args.a c.args.b c.args.differed c.place.result c.place.ensures c.self.invariant.whole (omega (arith, n, c.requires.left)) (omega (arith, n, c.requires.right)) in
     omega (arith, lt, p.distances.ok.0)
@@ -20,7 +20,7 @@ index-steps-requires c =
 pub returns-then-steps : goal.returns-then-steps
 returns-then-steps c =
     let p = c.self.inside in
-    let m : Machine = machine_of p.table.value in
+    let m : Machine = machine_of p.table in
     let n : m.count ≡ points_of c.args.self.now = ap (λ (k : WrittenMachine). points_of k) c.self.view_is in
     let lt : c.place.result < length p.distances.items = inside m p.distances.items c.args.a c.args.b c.args.differed c.place.result c.place.ensures c.self.invariant.whole (omega (arith, n, c.requires.left)) (omega (arith, n, c.requires.right)) in
     let e : steps_at p.distances.items c.args.a c.args.b c.args.differed ≡ c.index-steps.result.now = read_at p.distances.items c.args.a c.args.b c.args.differed c.place.result c.index-steps.result.now c.place.ensures lt c.index-steps.ensures in
@@ -30,7 +30,7 @@ returns-then-steps c =
 pub returns-else-steps : goal.returns-else-steps
 returns-else-steps c =
     let p = c.self.inside in
-    let m : Machine = machine_of p.table.value in
+    let m : Machine = machine_of p.table in
     let n : m.count ≡ points_of c.args.self.now = ap (λ (k : WrittenMachine). points_of k) c.self.view_is in
     let lt : c.place.result < length p.distances.items = inside m p.distances.items c.args.a c.args.b c.args.differed c.place.result c.place.ensures c.self.invariant.whole (omega (arith, n, c.requires.left)) (omega (arith, n, c.requires.right)) in
     let e : steps_at p.distances.items c.args.a c.args.b c.args.differed ≡ c.index-steps.result.now = read_at p.distances.items c.args.a c.args.b c.args.differed c.place.result c.index-steps.result.now c.place.ensures lt c.index-steps.ensures in

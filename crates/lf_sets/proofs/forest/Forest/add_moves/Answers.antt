@@ -18,5 +18,6 @@ loop-step-preserved c =
     record {
       gains = subst (λ (xs : List Move). GainsMoves c.args.level c.args.at xs old new) (sym (take_more moves i no_move c.loop-step-test.true))
           (moves_more c.args.level c.args.at (take i moves) step node old c.loop-step.self.nodes.items new refl c.loop-step.invariant.gains c.in_ok-add.ensures.gains);
+      numbered = c.in_ok-add.ensures.numbered;
       places = c.in_ok-add.ensures.places ∙ c.loop-step.invariant.places;
     }

@@ -1,7 +1,7 @@
 use Rattle.std.proofs.Common.{◌≡◌, ℕ, ◌+◌, ◌<◌, ◌≤◌, ◌∙◌, List, length, subst, arith}
 use Rattle.lf_core.specs.Marked.{Machine}
 use Rattle.lf_sets.specs.declared.forest.Node.{Node}
-use Rattle.lf_sets.specs.Forests.{GainsStep}
+use Rattle.lf_sets.specs.Forests.{IsNumbered, GainsStep}
 use Rattle.lf_sets.proofs.Levels.{step_more}
 use Rattle.lf_sets.proofs.forward.Search.step.Goals as goal
 
@@ -15,6 +15,7 @@ loop-at-preserved g c =
     subst (λ (k : ℕ). GainsStep m c.args.byte k c.loop-at.at (c.loop-at.at + 1) c.loop-at.self.forest.nodes.items c.step_from.new.self.forest.nodes.items) n c.in_ok-step_from.ensures.gains in
     record {
       gains = step_more m c.args.byte (length old) c.args.last c.loop-at.at old c.loop-at.self.forest.nodes.items c.step_from.new.self.forest.nodes.items c.loop-at.auto.at low c.loop-at.invariant.gains one;
+      numbered = subst (λ (k : ℕ). IsNumbered k c.step_from.new.self.forest.nodes.items c.step_from.new.self.forest.places.items) n c.in_ok-step_from.ensures.numbered;
       places = c.in_ok-step_from.ensures.places;
     }
 

@@ -1,7 +1,7 @@
 use Rattle.std.proofs.Common.{◌≡◌, ℕ, ◌+◌, ◌<◌, ◌∙◌, List, length, take, sym, subst, arith}
 use Rattle.lf_core.specs.Marked.{Machine, IsMachine}
 use Rattle.lf_sets.specs.declared.forest.Node.{Node}
-use Rattle.lf_sets.specs.Forests.{point_at, IsTraced}
+use Rattle.lf_sets.specs.Forests.{point_at, IsNumbered, IsTraced}
 use Rattle.lf_sets.proofs.Runs.{led_below}
 use Rattle.lf_sets.proofs.Levels.{trail_leads, traced_more}
 use Rattle.lf_sets.proofs.forward.Search.trace.Goals as goal
@@ -27,5 +27,6 @@ loop-byte-preserved g c =
     record {
       traced = subst (λ (level : ℕ). IsTraced m c.args.points.now c.args.block.now (k + 1) new level) (sym n)
           (traced_more m c.args.points.now c.args.block.now k c.loop-byte.last nodes new lt c.loop-byte.invariant.traced c.in_ok-step.ensures.gains);
+      numbered = λ _. subst (λ (level : ℕ). IsNumbered level new c.step.new.self.forest.places.items) (sym n) c.in_ok-step.ensures.numbered;
       places = c.in_ok-step.ensures.places;
     }

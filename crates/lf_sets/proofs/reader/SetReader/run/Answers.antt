@@ -3,7 +3,8 @@ use Rattle.lf_core.specs.declared.marked.Move.{Move}
 use Rattle.lf_core.specs.Marked.{Machine, IsMachine, IsWholeRun}
 use Rattle.lf_sets.specs.declared.blocks.TheConstants.{BLOCK}
 use Rattle.lf_sets.specs.declared.forest.Node.{Node}
-use Rattle.lf_sets.specs.Reached.{IsLedTo, IsEndingRun, ArePoints, AreReached}
+use Rattle.lf_core.specs.Runs.{RunsToEnd}
+use Rattle.lf_sets.specs.Reached.{IsLedTo, ArePoints, AreReached}
 use Rattle.lf_sets.specs.Forests.{point_at, IsTraced}
 use Rattle.lf_sets.proofs.Runs.{reached_below, led_cut, from_start}
 use Rattle.lf_sets.proofs.Cutting.{block_next, block_rest, level_below, no_whole, last_ends}
@@ -53,11 +54,11 @@ loop-k-init g c =
     let most : length line ≤ last * BLOCK + BLOCK = omega (arith, c.saturating_sub-last.ensures) in
     let are : AreReached m (take (last * BLOCK) line) c.deref-2.result.now =
     subst (λ (ps : List ℕ). AreReached m (take (last * BLOCK) line) ps) (sym c.deref-2.ensures.value) (c.in_ok-sets.ensures.each last c.index-2.result.now (omega arith) c.index-2.ensures) in
-    let first : IsEndingRun m (point_at c.as_slice-nodes.result.now c.in-Some.end) [] (reverse c.in_ok-back.back.items) =
-    subst (λ (r : List Move). IsEndingRun m (point_at c.as_slice-nodes.result.now c.in-Some.end) [] (reverse r)) (sym c.in_ok-back.ensures.items) (tt, c.in-Some.ensures.2) in
+    let first : RunsToEnd m (point_at c.as_slice-nodes.result.now c.in-Some.end) [] (reverse c.in_ok-back.back.items) =
+    subst (λ (r : List Move). RunsToEnd m (point_at c.as_slice-nodes.result.now c.in-Some.end) [] (reverse r)) (sym c.in_ok-back.ensures.items) (tt, c.in-Some.ensures.2) in
     record {
       led = subst (λ (n : ℕ). IsLedTo m (m.first ∷ []) (take (n * BLOCK) line) point) (sym all) (are.reached point c.in_ok-point.ensures.from);
-      ends = subst (λ (n : ℕ). IsEndingRun m point (drop (n * BLOCK) line) (reverse back)) (sym all)
+      ends = subst (λ (n : ℕ). RunsToEnd m point (drop (n * BLOCK) line) (reverse back)) (sym all)
           (last_ends m line block (last * BLOCK) point (reverse back) (c.block_at-block.ensures.last most) (c.in_ok-point.ensures.ends [] first));
       places = c.in_ok-level.ensures.places;
     }
@@ -103,13 +104,13 @@ loop-k-preserved g c =
     let long : length block ≡ BLOCK = c.block_at-block-in-loop-k.ensures.full fits in
     let are : AreReached m (take (at * BLOCK) line) c.deref-in-loop-k.result.now =
     subst (λ (ps : List ℕ). AreReached m (take (at * BLOCK) line) ps) (sym c.deref-in-loop-k.ensures.value) (c.in_ok-sets.ensures.each at c.index-in-loop-k.result.now (omega arith) c.index-in-loop-k.ensures) in
-    let after : IsEndingRun m c.loop-k.point (drop ((at + 1) * BLOCK) line) (reverse c.loop-k.back.items) =
-    subst (λ (n : ℕ). IsEndingRun m c.loop-k.point (drop (n * BLOCK) line) (reverse c.loop-k.back.items)) next c.loop-k.invariant.ends in
-    let ends : IsEndingRun m point (drop (at * BLOCK) line) (reverse back) =
-    subst (λ (bs : List ℕ). IsEndingRun m point bs (reverse back)) (sym (block_rest line block at BLOCK long c.block_at-block-in-loop-k.ensures.is)) (c.in_ok-point-2.ensures.ends (drop ((at + 1) * BLOCK) line) after) in
+    let after : RunsToEnd m c.loop-k.point (drop ((at + 1) * BLOCK) line) (reverse c.loop-k.back.items) =
+    subst (λ (n : ℕ). RunsToEnd m c.loop-k.point (drop (n * BLOCK) line) (reverse c.loop-k.back.items)) next c.loop-k.invariant.ends in
+    let ends : RunsToEnd m point (drop (at * BLOCK) line) (reverse back) =
+    subst (λ (bs : List ℕ). RunsToEnd m point bs (reverse back)) (sym (block_rest line block at BLOCK long c.block_at-block-in-loop-k.ensures.is)) (c.in_ok-point-2.ensures.ends (drop ((at + 1) * BLOCK) line) after) in
     record {
       led = subst (λ (n : ℕ). IsLedTo m (m.first ∷ []) (take (n * BLOCK) line) point) here (are.reached point c.in_ok-point-2.ensures.from);
-      ends = subst (λ (n : ℕ). IsEndingRun m point (drop (n * BLOCK) line) (reverse back)) here ends;
+      ends = subst (λ (n : ℕ). RunsToEnd m point (drop (n * BLOCK) line) (reverse back)) here ends;
       places = c.in_ok-point-2.ensures.places;
     }
 
@@ -121,5 +122,5 @@ returns g c =
     let back : List Move = c.loop-k.back.items in
     let done : c.saturating_sub-last.result / 1024 - c.loop-k.k ≡ 0 = omega (arith, c.loop-k-test.false) in
     let led : IsLedTo m (m.first ∷ []) [] point = subst (λ (n : ℕ). IsLedTo m (m.first ∷ []) (take (n * BLOCK) line) point) done c.loop-k.invariant.led in
-    let ends : IsEndingRun m point line (reverse back) = subst (λ (n : ℕ). IsEndingRun m point (drop (n * BLOCK) line) (reverse back)) done c.loop-k.invariant.ends in
+    let ends : RunsToEnd m point line (reverse back) = subst (λ (n : ℕ). RunsToEnd m point (drop (n * BLOCK) line) (reverse back)) done c.loop-k.invariant.ends in
     subst (λ (r : List Move). IsWholeRun m line r) (sym c.turned.ensures) (from_start m line point (reverse back) led ends)

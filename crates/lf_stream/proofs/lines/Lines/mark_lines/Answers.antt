@@ -1,5 +1,5 @@
 use Rattle.std.proofs.Common.{◌≡◌, refl, sym, take, ap, arith}
-use Rattle.lf_stream.specs.declared.limits.TheConstants.{MOST_MARKS}
+use Rattle.lf_limits.specs.Limits.{most_marks}
 use Rattle.lf_stream.proofs.BatchLaws.{marked_none, marked_more, marked_all, marked_text}
 use Rattle.lf_stream.proofs.lines.Lines.mark_lines.Goals as goal
 
@@ -26,5 +26,5 @@ returns-in_default-clause-marked c =
 pub returns-clause-marked : goal.returns-clause-marked
 returns-clause-marked c =
     let l = c.loop-count in
-    let whole : l.count ≡ MOST_MARKS = omega (arith, l.auto.count-end, c.loop-count-test.false) in
+    let whole : l.count ≡ most_marks = omega (arith, l.auto.count-end, c.loop-count-test.false) in
     marked_text c.args.self.now l.self l.count _ _ l.invariant refl (ap (λ n. take n l.self.marks.items) (sym whole))

@@ -1,7 +1,7 @@
 use Rattle.std.proofs.Common.{◌≡◌, ap, ◌∙◌, arith}
 use Rattle.lf_core.specs.Marked.{Machine}
 use Rattle.lf_core.specs.Written.{WrittenMachine, points_of, is_end_at}
-use Rattle.lf_core.proofs.WrittenLaws.{written_points, written_is_end}
+use Rattle.lf_core.specs.WrittenLaws.{written_points, written_is_end}
 use Rattle.lf_written.proofs.written.WrittenMarked.ends.Goals as goal
 
 pub is_end-requires : goal.is_end-requires

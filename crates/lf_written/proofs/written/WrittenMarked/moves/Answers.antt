@@ -3,7 +3,7 @@ use Rattle.std.proofs.lemmas.List.{take-append-drop, take_all}
 use Rattle.lf_core.specs.declared.marked.Move.{Move}
 use Rattle.lf_core.specs.Marked.{Machine}
 use Rattle.lf_core.specs.Written.{WrittenMachine, points_of, moves_at}
-use Rattle.lf_core.proofs.WrittenLaws.{written_points, written_moves}
+use Rattle.lf_core.specs.WrittenLaws.{written_points, written_moves}
 use Rattle.lf_written.proofs.TableLaws.{on_err}
 use Rattle.lf_written.proofs.written.WrittenMarked.moves.Goals as goal
 

@@ -1,6 +1,6 @@
 use Rattle.std.proofs.Common.{ap, ◌∙◌}
 use Rattle.lf_core.specs.Written.{WrittenMachine, points_of}
-use Rattle.lf_core.proofs.WrittenLaws.{written_points}
+use Rattle.lf_core.specs.WrittenLaws.{written_points}
 use Rattle.lf_written.proofs.written.WrittenMarked.points.Goals as goal
 
 pub returns : goal.returns

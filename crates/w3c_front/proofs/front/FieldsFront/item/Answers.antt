@@ -1,6 +1,6 @@
 use Rattle.std.proofs.Common.{sym}
 use Rattle.std.proofs.lemmas.Bool.{ne_eqb}
-use Rattle.lf_format.proofs.RunCuts.{run_taken}
+use Rattle.lf_spelling.specs.RunLaws.{run_taken}
 use Rattle.w3c_front.specs.Items.{is_inner}
 use Rattle.w3c_front.proofs.Cuts.{blanks_read, heading_read, identifier_read, field_fails, field_read}
 use Rattle.w3c_front.proofs.Texts.{identifier_text}

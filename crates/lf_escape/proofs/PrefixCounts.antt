@@ -1,1 +1,0 @@
--- Each code's number of proper prefixes is that of its words over all bytes.

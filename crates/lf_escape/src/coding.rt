@@ -1,0 +1,65 @@
+//! A code by its name.
+
+use crate::apache_hex::ApacheHex;
+use crate::code::Code;
+use crate::doubled::Doubled;
+use crate::ha_capture::HaCapture;
+use crate::ha_escape::HaEscape;
+use crate::ha_hash::HaHash;
+use crate::nginx_hex::NginxHex;
+use crate::nginx_json::NginxJson;
+use crate::plus_space::PlusSpace;
+use crate::raw::Raw;
+use crate::word::Word;
+
+/// The code in which a slot writes the letters of a plain text.
+#[derive(Clone, Copy, Debug, PartialEq, Eq)]
+pub enum Coding {
+    Raw,
+    ApacheHex,
+    NginxHex,
+    NginxJson,
+    HaHash,
+    HaCapture,
+    HaEscape,
+    PlusSpace,
+    Doubled,
+}
+
+impl Code for Coding {
+    ghost use Rattle.lf_escape.specs.Codings.{coding_takes, coding_word, coding_laws};
+
+    ghost can_take = { coding_takes };
+
+    ghost word = { coding_word };
+
+    ghost laws = { coding_laws };
+
+    fn takes(&self, letter: u8) -> bool {
+        match self {
+            Coding::Raw => Raw.takes(letter),
+            Coding::ApacheHex => ApacheHex.takes(letter),
+            Coding::NginxHex => NginxHex.takes(letter),
+            Coding::NginxJson => NginxJson.takes(letter),
+            Coding::HaHash => HaHash.takes(letter),
+            Coding::HaCapture => HaCapture.takes(letter),
+            Coding::HaEscape => HaEscape.takes(letter),
+            Coding::PlusSpace => PlusSpace.takes(letter),
+            Coding::Doubled => Doubled.takes(letter),
+        }
+    }
+
+    fn word_of(&self, letter: u8) -> Word {
+        match self {
+            Coding::Raw => Raw.word_of(letter),
+            Coding::ApacheHex => ApacheHex.word_of(letter),
+            Coding::NginxHex => NginxHex.word_of(letter),
+            Coding::NginxJson => NginxJson.word_of(letter),
+            Coding::HaHash => HaHash.word_of(letter),
+            Coding::HaCapture => HaCapture.word_of(letter),
+            Coding::HaEscape => HaEscape.word_of(letter),
+            Coding::PlusSpace => PlusSpace.word_of(letter),
+            Coding::Doubled => Doubled.word_of(letter),
+        }
+    }
+}

@@ -1,0 +1,2 @@
+pub mod Limits
+pub use Rattle.lf_limits.specs.Limits

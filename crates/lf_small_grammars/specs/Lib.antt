@@ -1,0 +1,4 @@
+pub mod Map
+pub mod Narrowing
+pub mod Numbers
+pub mod Tiny

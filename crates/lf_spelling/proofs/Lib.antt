@@ -1,0 +1,4 @@
+pub mod Joining
+pub mod Steps
+pub mod OneAnswer
+pub mod KeepsLaws

@@ -1,0 +1,14 @@
+pub mod Numbers
+pub mod Cuts
+pub mod Pieces
+pub mod Items
+pub mod ItemLaws
+pub mod Fronts
+pub mod Spelling
+pub mod Building
+pub mod Runs
+pub mod RunLaws
+pub mod Texts
+pub mod TextLaws
+pub mod Enclosed
+pub mod EnclosedLaws

@@ -1,0 +1,11 @@
+//! How a front reads the text of a format, an item after the other, and what all fronts share.
+#![tactic(auto)]
+
+mod built;
+mod fault;
+mod front;
+mod text;
+
+pub use fault::{Cause, FormatFault, ItemFault};
+pub use front::{Front, Given, Taken, one_answer, read_text};
+pub use text::{Cut, cut_before, cut_part, spelled};
