@@ -7,9 +7,9 @@ use Rattle.lf_spelling.specs.Items.{Failed}
 use Rattle.lf_spelling.specs.declared.fault.Cause.TheVariants.{BadFlags, Unclosed}
 use Rattle.lf_spelling.specs.declared.fault.ItemFault.{ItemFault}
 use Rattle.lf_spelling.specs.declared.fault.ItemFault.TheVariants as fault
-use Rattle.lf_spelling.specs.declared.front.Taken.{Taken}
-use Rattle.lf_spelling.specs.declared.front.Given.{Given}
-use Rattle.lf_spelling.specs.declared.front.Given.TheVariants.{Slot}
+use Rattle.lf_spelling.specs.declared.item_reader.Taken.{Taken}
+use Rattle.lf_spelling.specs.declared.item_reader.Given.{Given}
+use Rattle.lf_spelling.specs.declared.item_reader.Given.TheVariants.{Slot}
 use Rattle.lf_format.specs.declared.slot.Absent.{Absent}
 use Rattle.lf_format.specs.declared.slot.Absent.TheVariants.{Dash}
 use Rattle.apache_front.specs.declared.table.Row.{Row}

@@ -84,7 +84,7 @@ abbrev pub after_flags : List ℕ → List ℕ
 after_flags [] = []
 after_flags (b ∷ text) = if b == 33 then past is_flag text else past is_flag (b ∷ text)
 
--- the `<` or `>` at the front, or nothing
+-- the `<` or `>` at the start, or nothing
 abbrev pub side_of : List ℕ → List ℕ
 side_of [] = []
 side_of (b ∷ text) = if is_angle b then b ∷ [] else []

@@ -4,7 +4,7 @@ use Rattle.lf_spelling.specs.Enclosed.{is_unclosed}
 use Rattle.lf_spelling.specs.Items.{Reading, Failed}
 use Rattle.lf_spelling.specs.declared.fault.Cause.{Cause}
 use Rattle.lf_spelling.specs.declared.fault.Cause.TheVariants.{BadFlags, Unclosed, BadName}
-use Rattle.lf_spelling.specs.declared.front.Given.TheVariants.{Slot}
+use Rattle.lf_spelling.specs.declared.item_reader.Given.TheVariants.{Slot}
 use Rattle.apache_front.specs.declared.front.Apache.{Apache}
 use Rattle.apache_front.specs.declared.table.Row.{Row}
 use Rattle.apache_front.specs.Table.{row_of, takes}

@@ -1,4 +1,4 @@
--- What is read at the front of a text is so.
+-- What is read at the start of a text is so.
 use Rattle.std.proofs.Common.{◌≡◌, ℕ, ◌≤◌, true, false, cond, not, eqb, List, [], ◌∷◌, ◌++◌, length, Option, Some, None, refl, sym, ap, subst, ◌∙◌, append_assoc, arith}
 use Rattle.std.proofs.lemmas.Bool.{eqb-true, cond_both, not-false}
 use Rattle.lf_spelling.specs.Texts.{begins_with}
@@ -6,7 +6,7 @@ use Rattle.lf_spelling.specs.Enclosed.{HoldsNo, is_unclosed}
 use Rattle.lf_spelling.specs.EnclosedLaws.{enclosed_parts}
 use Rattle.lf_spelling.specs.Items.{Reading, Found, Failed}
 use Rattle.lf_spelling.specs.declared.fault.Cause.TheVariants.{LineBreak, BadFlags, Unclosed, BadName}
-use Rattle.lf_spelling.specs.declared.front.Given.TheVariants.{Byte, Slot}
+use Rattle.lf_spelling.specs.declared.item_reader.Given.TheVariants.{Byte, Slot}
 use Rattle.apache_front.specs.declared.front.Apache.{Apache}
 use Rattle.apache_front.specs.declared.table.Row.{Row}
 use Rattle.apache_front.specs.Table.{row_of, takes}

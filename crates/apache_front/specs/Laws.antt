@@ -1,12 +1,12 @@
--- At the front of a text stands one item, or none for one cause, and what an item gives is good.
+-- At the start of a text stands one item, or none for one cause, and what an item gives is good.
 use Rattle.std.proofs.Common.{◌≡◌, ℕ, true, cond, not, ◌&&◌, eqb, List, [], ◌∷◌, Option, Some, None, refl, subst, arith}
 use Rattle.std.proofs.lemmas.Bool.{cond_both, and_parts}
-use Rattle.lf_spelling.specs.declared.front.Given.{Given}
-use Rattle.lf_spelling.specs.declared.front.Given.TheVariants.{Byte, Slot}
+use Rattle.lf_spelling.specs.declared.item_reader.Given.{Given}
+use Rattle.lf_spelling.specs.declared.item_reader.Given.TheVariants.{Byte, Slot}
 use Rattle.apache_front.specs.Directive.{spelling, absence, slot_of}
 use Rattle.apache_front.specs.Items.{escaped, IsItem, plain, escape, backslash, percent, directive}
 use Rattle.apache_front.specs.Reading.{reading, item_is, fault_is}
-use Rattle.lf_spelling.specs.Fronts.{IsFront, KeepsItem}
+use Rattle.lf_spelling.specs.ItemReaders.{ReadsItems, KeepsItem}
 use Rattle.lf_spelling.specs.ItemLaws.{at_both}
 use Rattle.lf_format.specs.Keeps.{is_no_feed}
 use Rattle.apache_front.specs.SlotLaws.{row_keeps}
@@ -33,7 +33,7 @@ item_keeps bytes given after (backslash h eb eg) = at_both KeepsItem bytes (92 �
 item_keeps bytes given after (percent eb eg) = at_both KeepsItem bytes (37 ∷ 37 ∷ []) given (Byte 37) eb eg (record { good = refl; short = omega arith })
 item_keeps bytes given after (directive d row h eb eg) = at_both KeepsItem bytes (spelling d) given (Slot (slot_of d row)) eb eg (record { good = row_keeps (spelling d) row (absence d.flags row.absent); short = omega arith })
 
-pub laws : IsFront reading item_is fault_is
+pub laws : ReadsItems reading item_is fault_is
 unfolding Fine Again
 laws = record {
   found = λ state text item after some read. subst (Fine text) read (all_fine state text some);

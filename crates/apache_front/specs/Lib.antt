@@ -1,3 +1,4 @@
+-- The definitions and laws of formats as Apache's LogFormat spells them.
 pub mod Apache
 pub mod Items
 pub mod Directive

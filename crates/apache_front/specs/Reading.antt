@@ -1,16 +1,16 @@
--- What a reader finds at the front of a text.
+-- What a reader finds at the start of a text.
 use Rattle.std.specs.Prelude.{◌≡◌, ℕ, ◌+◌, ◌-◌, ◌==◌, not, Bool, true, length, take, Result, Ok, Err, List, [], ◌∷◌, Option, Some, None, if◌then◌else◌}
 use Rattle.lf_spelling.specs.Items.{Item, Reading, Found, Failed}
 use Rattle.lf_spelling.specs.declared.fault.Cause.TheVariants.{LineBreak, EmptyFormat, BadFlags, Unclosed, UnknownName, BadName}
-use Rattle.lf_spelling.specs.Fronts.{GivesItem}
+use Rattle.lf_spelling.specs.ItemReaders.{GivesItem}
 use Rattle.lf_spelling.specs.Enclosed.{is_unclosed}
-use Rattle.lf_spelling.specs.declared.front.Taken.{Taken}
+use Rattle.lf_spelling.specs.declared.item_reader.Taken.{Taken}
 use Rattle.lf_spelling.specs.declared.fault.Cause.{Cause}
 use Rattle.lf_spelling.specs.declared.fault.ItemFault.{ItemFault}
 use Rattle.lf_spelling.specs.declared.fault.ItemFault.TheVariants as fault
 use Rattle.lf_format.specs.declared.slot.Absent.TheVariants.{Dash}
-use Rattle.lf_spelling.specs.declared.front.Given.{Given}
-use Rattle.lf_spelling.specs.declared.front.Given.TheVariants.{Byte, Slot}
+use Rattle.lf_spelling.specs.declared.item_reader.Given.{Given}
+use Rattle.lf_spelling.specs.declared.item_reader.Given.TheVariants.{Byte, Slot}
 use Rattle.apache_front.specs.declared.front.Apache.{Apache}
 use Rattle.apache_front.specs.declared.table.Row.{Row}
 use Rattle.apache_front.specs.Table.{row_of, takes}
@@ -55,7 +55,7 @@ abbrev pub on_backslash : List ℕ → Reading Apache
 on_backslash [] = found (92 ∷ []) (Byte 92) []
 on_backslash (c ∷ text) = if c == 110 then Failed LineBreak else on_escape c text (escaped c)
 
--- what is found at the front of a text
+-- what is found at the start of a text
 abbrev pub reading : Apache → List ℕ → Reading Apache
 reading apache [] = Failed EmptyFormat
 reading apache (b ∷ text) =
@@ -68,7 +68,7 @@ reading apache (b ∷ text) =
 abbrev pub item_is : Apache → Item Apache → List ℕ → Type 0
 item_is apache item after = IsItem item.bytes item.given after
 
--- No item stands at the front of these bytes, for this cause.
+-- No item stands at the start of these bytes, for this cause.
 abbrev pub fault_is : Apache → List ℕ → Cause → Type 0
 fault_is apache text cause = HasFault text cause
 

@@ -145,7 +145,7 @@ fn code(kind: &Kind) -> Coding
     }
 }
 
-/// The slot of a row, named by a percent sign and the front of the text.
+/// The slot of a row, named by a percent sign and the start of the text.
 fn slot(alloc: Global, front: &[u8], row: Row, absent: Absent) -> Result<Slot, OutOfMemory>
     requires { IsUtf8 front.now }
     ensures { IfOk result (λ slot. slot ≡ row_slot (37 ∷ front.now) row absent) }

@@ -9,14 +9,14 @@ ghost use Rattle.apache_front.specs.Apache.{Spells, IsFaulty, HasOneAnswer};
 
 use crate::directive::{backslash, percent};
 use lf_format::{Format, LineEnd};
-use lf_spelling::{Cause, FormatFault, Front, Given, ItemFault, Taken, read_text};
+use lf_spelling::{Cause, FormatFault, Given, ItemFault, ItemReader, Taken, read_text};
 use std::alloc::Global;
 
 /// Apache's language, which has one state.
 #[derive(Clone, Copy)]
 struct Apache;
 
-impl Front for Apache {
+impl ItemReader for Apache {
     ghost use Rattle.apache_front.specs.Reading.{item_is as apache_item_is, fault_is as apache_fault_is, reading as apache_reading};
     ghost use Rattle.apache_front.specs.Laws.{laws as apache_laws};
 

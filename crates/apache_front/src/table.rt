@@ -14,26 +14,42 @@ use std::alloc::Global;
 /// The names that a letter takes.
 #[derive(Clone, Copy, Debug, PartialEq, Eq)]
 pub enum Names {
+    /// The letter takes no name.
     Never,
+    /// The letter needs a name, and takes any.
     Always,
+    /// `c`, or none.
     Client,
+    /// `canonical`, `local` or `remote`, or none.
     Port,
+    /// `pid` or `tid`, or none.
     Process,
+    /// `s`, `ms` or `us`, or none.
     Unit,
 }
 
 /// What sort of values a letter stands for.
 #[derive(Clone, Copy, Debug, PartialEq, Eq)]
 pub enum Sort {
+    /// A text of visible letters, one or more.
     Visible,
+    /// A text of any bytes, one or more.
     Filled,
+    /// A text of any bytes.
     Free,
+    /// Nothing, or `?` and then any bytes.
     Query,
+    /// A number from 0.
     Count,
+    /// A number from 0, with zero as `-`.
     DashCount,
+    /// A number from 0 to 65535.
     PortNumber,
+    /// A number from 100 to 999.
     Status,
+    /// A time in brackets.
     Time,
+    /// What becomes of the connection: `X`, `+` or `-`.
     Connection,
 }
 
@@ -42,6 +58,7 @@ pub enum Sort {
 pub struct Row {
     pub names: Names,
     pub sort: Sort,
+    /// How it is printed that there is no value.
     pub absent: Absent,
 }
 

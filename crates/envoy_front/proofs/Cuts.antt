@@ -8,8 +8,8 @@ use Rattle.lf_spelling.specs.Texts.{without_first}
 use Rattle.lf_spelling.specs.Enclosed.{enclosed}
 use Rattle.lf_spelling.specs.Items.{Failed}
 use Rattle.lf_spelling.specs.declared.fault.Cause.TheVariants.{UnknownName}
-use Rattle.lf_spelling.specs.declared.front.Given.{Given}
-use Rattle.lf_spelling.specs.declared.front.Given.TheVariants.{Slot}
+use Rattle.lf_spelling.specs.declared.item_reader.Given.{Given}
+use Rattle.lf_spelling.specs.declared.item_reader.Given.TheVariants.{Slot}
 use Rattle.lf_format.specs.declared.slot.Absent.{Absent}
 use Rattle.lf_format.specs.declared.kind.Kind.{Kind}
 use Rattle.lf_escape.specs.declared.coding.Coding.TheVariants.{Raw}

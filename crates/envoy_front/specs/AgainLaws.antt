@@ -1,4 +1,4 @@
--- What stands at the front of a text is read there.
+-- What stands at the start of a text is read there.
 use Rattle.std.proofs.Common.{◌≡◌, ℕ, ◌≤◌, Bool, true, false, cond, not, eqb, List, [], ◌∷◌, ◌++◌, length, Option, Some, None, refl, sym, ap, ◌∙◌, append_assoc, arith}
 use Rattle.std.specs.Prelude.{IfSome}
 use Rattle.std.specs.List.{list_all}
@@ -11,8 +11,8 @@ use Rattle.lf_spelling.specs.EnclosedLaws.{part_again}
 use Rattle.lf_spelling.specs.ItemLaws.{at_both}
 use Rattle.lf_spelling.specs.Items.{Failed}
 use Rattle.lf_spelling.specs.declared.fault.Cause.TheVariants.{LineBreak}
-use Rattle.lf_spelling.specs.declared.front.Given.{Given}
-use Rattle.lf_spelling.specs.declared.front.Given.TheVariants.{Byte, Slot}
+use Rattle.lf_spelling.specs.declared.item_reader.Given.{Given}
+use Rattle.lf_spelling.specs.declared.item_reader.Given.TheVariants.{Byte, Slot}
 use Rattle.envoy_front.specs.declared.front.Envoy.{Envoy}
 use Rattle.envoy_front.specs.declared.table.Sort.{Sort}
 use Rattle.envoy_front.specs.Table.{sort_of, takes, takes_length}

@@ -2,7 +2,7 @@
 use Rattle.std.proofs.Common.{◌≡◌, ℕ, ◌≤◌, List, length, Option, Some, None, refl, sym, ap, subst, ◌∙◌, arith}
 use Rattle.lf_spelling.specs.Items.{Reading, Failed}
 use Rattle.lf_spelling.specs.declared.fault.Cause.{Cause}
-use Rattle.lf_spelling.specs.declared.front.Given.TheVariants.{Slot}
+use Rattle.lf_spelling.specs.declared.item_reader.Given.TheVariants.{Slot}
 use Rattle.envoy_front.specs.declared.front.Envoy.{Envoy}
 use Rattle.envoy_front.specs.declared.table.Sort.{Sort}
 use Rattle.envoy_front.specs.Table.{sort_of}

@@ -1,4 +1,4 @@
--- What is read at the front of a text is so.
+-- What is read at the start of a text is so.
 use Rattle.std.proofs.Common.{◌≡◌, ℕ, ◌≤◌, false, cond, eqb, List, [], ◌∷◌, ◌++◌, length, Option, Some, None, refl, sym, ap, subst, ◌∙◌, append_assoc, arith}
 use Rattle.std.proofs.lemmas.Bool.{eqb-true, cond_both}
 use Rattle.lf_spelling.specs.Items.{Reading, Found, Failed}
@@ -8,7 +8,7 @@ use Rattle.lf_spelling.specs.Enclosed.{enclosed}
 use Rattle.lf_spelling.specs.EnclosedLaws.{enclosed_parts}
 use Rattle.lf_spelling.specs.declared.fault.Cause.{Cause}
 use Rattle.lf_spelling.specs.declared.fault.Cause.TheVariants.{LineBreak}
-use Rattle.lf_spelling.specs.declared.front.Given.TheVariants.{Byte, Slot}
+use Rattle.lf_spelling.specs.declared.item_reader.Given.TheVariants.{Byte, Slot}
 use Rattle.envoy_front.specs.declared.front.Envoy.{Envoy}
 use Rattle.envoy_front.specs.declared.table.Sort.{Sort}
 use Rattle.envoy_front.specs.Table.{sort_of}

@@ -1,9 +1,9 @@
--- At the front of a text stands one item, or none for one cause, and what an item gives is good.
+-- At the start of a text stands one item, or none for one cause, and what an item gives is good.
 use Rattle.std.proofs.Common.{ℕ, not, eqb, List, [], ◌∷◌, refl, subst, arith}
 use Rattle.std.proofs.lemmas.Bool.{and_parts}
-use Rattle.lf_spelling.specs.declared.front.Given.{Given}
-use Rattle.lf_spelling.specs.declared.front.Given.TheVariants.{Byte, Slot}
-use Rattle.lf_spelling.specs.Fronts.{IsFront, KeepsItem}
+use Rattle.lf_spelling.specs.declared.item_reader.Given.{Given}
+use Rattle.lf_spelling.specs.declared.item_reader.Given.TheVariants.{Byte, Slot}
+use Rattle.lf_spelling.specs.ItemReaders.{ReadsItems, KeepsItem}
 use Rattle.lf_spelling.specs.ItemLaws.{at_both}
 use Rattle.envoy_front.specs.Command.{spelling, slot_of}
 use Rattle.envoy_front.specs.Items.{IsItem, plain, percent, command}
@@ -18,7 +18,7 @@ item_keeps bytes given (plain b h eb eg) = at_both KeepsItem bytes (b ∷ []) gi
 item_keeps bytes given (percent eb eg) = at_both KeepsItem bytes (37 ∷ 37 ∷ []) given (Byte 37) eb eg (record { good = refl; short = omega arith })
 item_keeps bytes given (command c sort h eb eg) = at_both KeepsItem bytes (spelling c) given (Slot (slot_of c sort)) eb eg (record { good = keeps_slot c sort; short = omega arith })
 
-pub laws : IsFront reading item_is fault_is
+pub laws : ReadsItems reading item_is fault_is
 unfolding Fine Again
 laws = record {
   found = λ state text item after some read. subst (Fine text) read (all_fine state text some);

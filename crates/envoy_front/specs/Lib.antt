@@ -1,3 +1,4 @@
+-- The definitions and laws of formats as Envoy's access log spells them.
 pub mod Envoy
 pub mod Items
 pub mod Command

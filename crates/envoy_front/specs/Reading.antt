@@ -1,14 +1,14 @@
--- What a reader finds at the front of a text.
+-- What a reader finds at the start of a text.
 use Rattle.std.specs.Prelude.{ℕ, ◌==◌, Result, List, [], ◌∷◌, Option, Some, None, if◌then◌else◌}
 use Rattle.lf_spelling.specs.Items.{Item, Reading, Found, Failed}
-use Rattle.lf_spelling.specs.Fronts.{GivesItem}
+use Rattle.lf_spelling.specs.ItemReaders.{GivesItem}
 use Rattle.lf_spelling.specs.Texts.{without_first}
 use Rattle.lf_spelling.specs.declared.fault.Cause.{Cause}
 use Rattle.lf_spelling.specs.declared.fault.Cause.TheVariants.{LineBreak, EmptyFormat, UnknownName}
 use Rattle.lf_spelling.specs.declared.fault.ItemFault.{ItemFault}
-use Rattle.lf_spelling.specs.declared.front.Taken.{Taken}
-use Rattle.lf_spelling.specs.declared.front.Given.{Given}
-use Rattle.lf_spelling.specs.declared.front.Given.TheVariants.{Byte, Slot}
+use Rattle.lf_spelling.specs.declared.item_reader.Taken.{Taken}
+use Rattle.lf_spelling.specs.declared.item_reader.Given.{Given}
+use Rattle.lf_spelling.specs.declared.item_reader.Given.TheVariants.{Byte, Slot}
 use Rattle.envoy_front.specs.declared.front.Envoy.{Envoy}
 use Rattle.envoy_front.specs.declared.table.Sort.{Sort}
 use Rattle.envoy_front.specs.Table.{sort_of}
@@ -19,7 +19,7 @@ use Rattle.envoy_front.specs.Items.{IsItem, HasFault}
 abbrev pub found : List ℕ → Given → List ℕ → Reading Envoy
 found bytes given after = Found (record { bytes = bytes; given = given; state = record {} }) after
 
--- the command at the front, by what follows its percent sign
+-- the command at the start, by what follows its percent sign
 abbrev pub command_in : List ℕ → Command
 command_in text = record { name = name_of text; argument = argument_of (after_name text); length = length_of (after_argument (after_name text)) }
 
@@ -46,7 +46,7 @@ abbrev pub on_percent : List ℕ → Reading Envoy
 on_percent [] = on_command []
 on_percent (c ∷ text) = if c == 37 then found (37 ∷ 37 ∷ []) (Byte 37) text else on_command (c ∷ text)
 
--- what is found at the front of a text
+-- what is found at the start of a text
 abbrev pub reading : Envoy → List ℕ → Reading Envoy
 reading envoy [] = Failed EmptyFormat
 reading envoy (b ∷ text) =
@@ -58,7 +58,7 @@ reading envoy (b ∷ text) =
 abbrev pub item_is : Envoy → Item Envoy → List ℕ → Type 0
 item_is envoy item after = IsItem item.bytes item.given
 
--- No item stands at the front of these bytes, for this cause.
+-- No item stands at the start of these bytes, for this cause.
 abbrev pub fault_is : Envoy → List ℕ → Cause → Type 0
 fault_is envoy text cause = HasFault text cause
 

@@ -56,7 +56,7 @@ fn cut_name(text: &[u8]) -> (&[u8], &[u8])
     text.split_at(name_len(text))
 }
 
-/// The digits of the length at the front, or none, and what follows them.
+/// The digits of the length at the start, or none, and what follows them.
 #[tactic(auto, using(lf_spelling::specs::RunLaws::run_fits, lf_spelling::specs::RunLaws::run_front, lf_spelling::specs::RunLaws::run_back))]
 fn cut_length(rest: &[u8]) -> Cut<'_>
     ensures digits { option_copied result.part ≡ length_of rest.now }

@@ -9,14 +9,14 @@ ghost use Rattle.envoy_front.specs.Envoy.{Spells, IsFaulty, HasOneAnswer, withou
 
 use crate::command::percent;
 use lf_format::{Format, LineEnd};
-use lf_spelling::{Cause, FormatFault, Front, Given, ItemFault, Taken, read_text};
+use lf_spelling::{Cause, FormatFault, Given, ItemFault, ItemReader, Taken, read_text};
 use std::alloc::Global;
 
 /// Envoy's language, which has one state.
 #[derive(Clone, Copy)]
 struct Envoy;
 
-impl Front for Envoy {
+impl ItemReader for Envoy {
     ghost use Rattle.envoy_front.specs.Reading.{item_is as envoy_item_is, fault_is as envoy_fault_is, reading as envoy_reading};
     ghost use Rattle.envoy_front.specs.Laws.{laws as envoy_laws};
 

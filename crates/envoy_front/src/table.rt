@@ -15,12 +15,19 @@ use lf_time::IsoMillisZ;
 /// What sort of values a command stands for.
 #[derive(Clone, Copy, Debug, PartialEq, Eq)]
 pub enum Sort {
+    /// The value of a header; the command has an argument, and may have a length.
     Header,
+    /// What filters have noted; the command has an argument, and may have a length.
     Data,
+    /// An address or a name: visible letters, one or more.
     Visible,
+    /// A text of a header's bytes, one or more.
     Reason,
+    /// A number from 0 to 999.
     Status,
+    /// A number from 0: bytes, milliseconds, or which connection it is.
     Count,
+    /// A time, which is never missing.
     Start,
 }
 

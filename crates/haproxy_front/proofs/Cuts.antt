@@ -10,12 +10,12 @@ use Rattle.lf_spelling.specs.Texts.{is_nothing}
 use Rattle.lf_spelling.specs.Enclosed.{is_unclosed, IsPart}
 use Rattle.lf_spelling.specs.EnclosedLaws.{enclosed_parts}
 use Rattle.lf_spelling.specs.Items.{Reading, Failed}
-use Rattle.lf_spelling.specs.Fronts.{GivesItem}
+use Rattle.lf_spelling.specs.ItemReaders.{GivesItem}
 use Rattle.lf_spelling.specs.declared.fault.Cause.TheVariants.{BadName, UnknownName, Unclosed, BadFlags}
 use Rattle.lf_spelling.specs.declared.fault.ItemFault.{ItemFault}
-use Rattle.lf_spelling.specs.declared.front.Taken.{Taken}
-use Rattle.lf_spelling.specs.declared.front.Given.{Given}
-use Rattle.lf_spelling.specs.declared.front.Given.TheVariants.{Nothing, Byte}
+use Rattle.lf_spelling.specs.declared.item_reader.Taken.{Taken}
+use Rattle.lf_spelling.specs.declared.item_reader.Given.{Given}
+use Rattle.lf_spelling.specs.declared.item_reader.Given.TheVariants.{Nothing, Byte}
 use Rattle.haproxy_front.specs.declared.flags.Flags.{Flags}
 use Rattle.haproxy_front.specs.declared.table.Row.{Row}
 use Rattle.haproxy_front.specs.Flags.{are_flags, changed}

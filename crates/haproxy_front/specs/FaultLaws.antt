@@ -8,7 +8,7 @@ use Rattle.lf_spelling.specs.Enclosed.{is_unclosed}
 use Rattle.lf_spelling.specs.Items.{Reading, Failed}
 use Rattle.lf_spelling.specs.declared.fault.Cause.{Cause}
 use Rattle.lf_spelling.specs.declared.fault.Cause.TheVariants.{BadFlags, Unclosed, BadName}
-use Rattle.lf_spelling.specs.declared.front.Given.TheVariants.{Nothing}
+use Rattle.lf_spelling.specs.declared.item_reader.Given.TheVariants.{Nothing}
 use Rattle.haproxy_front.specs.declared.flags.Flags.{Flags}
 use Rattle.haproxy_front.specs.declared.table.Row.{Row}
 use Rattle.haproxy_front.specs.Names.{is_alphanumeric}

@@ -1,4 +1,4 @@
--- What is read at the front of a text is so.
+-- What is read at the start of a text is so.
 use Rattle.std.proofs.Common.{◌≡◌, ℕ, ◌≤◌, true, false, cond, not, eqb, List, [], ◌∷◌, ◌++◌, length, Option, Some, None, refl, sym, ap, subst, ◌∙◌, append_assoc, arith}
 use Rattle.std.specs.Prelude.{codes}
 use Rattle.std.specs.Str.{bytes_eq}
@@ -11,7 +11,7 @@ use Rattle.lf_spelling.specs.Enclosed.{is_unclosed}
 use Rattle.lf_spelling.specs.EnclosedLaws.{enclosed_parts}
 use Rattle.lf_spelling.specs.Items.{Reading, Found, Failed}
 use Rattle.lf_spelling.specs.declared.fault.Cause.TheVariants.{LineBreak, BadFlags, Unclosed, BadName}
-use Rattle.lf_spelling.specs.declared.front.Given.TheVariants.{Nothing, Byte}
+use Rattle.lf_spelling.specs.declared.item_reader.Given.TheVariants.{Nothing, Byte}
 use Rattle.haproxy_front.specs.declared.flags.Flags.{Flags}
 use Rattle.haproxy_front.specs.declared.table.Row.{Row}
 use Rattle.haproxy_front.specs.Names.{is_alphanumeric}

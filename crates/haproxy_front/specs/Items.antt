@@ -7,8 +7,8 @@ use Rattle.lf_spelling.specs.Texts.{is_nothing, begins_with}
 use Rattle.lf_spelling.specs.Enclosed.{enclosed, is_unclosed, part_of, after_part}
 use Rattle.lf_spelling.specs.declared.fault.Cause.{Cause}
 use Rattle.lf_spelling.specs.declared.fault.Cause.TheVariants.{LineBreak, Unclosed, BadFlags, BadName, UnknownName}
-use Rattle.lf_spelling.specs.declared.front.Given.{Given}
-use Rattle.lf_spelling.specs.declared.front.Given.TheVariants.{Nothing, Byte}
+use Rattle.lf_spelling.specs.declared.item_reader.Given.{Given}
+use Rattle.lf_spelling.specs.declared.item_reader.Given.TheVariants.{Nothing, Byte}
 use Rattle.haproxy_front.specs.declared.flags.Flags.{Flags}
 use Rattle.haproxy_front.specs.declared.table.Row.{Row}
 use Rattle.haproxy_front.specs.Flags.{are_flags, changed}

@@ -1,11 +1,11 @@
--- At the front of a text stands one item, or none for one cause, and what an item gives is good.
+-- At the start of a text stands one item, or none for one cause, and what an item gives is good.
 use Rattle.std.proofs.Common.{◌≡◌, ℕ, ◌≤◌, false, not, ◌&&◌, eqb, List, [], ◌∷◌, length, Option, Some, refl, subst, length-append, arith}
 use Rattle.std.specs.Prelude.{codes}
 use Rattle.std.proofs.lemmas.Bool.{and_parts}
-use Rattle.lf_spelling.specs.declared.front.Given.{Given}
-use Rattle.lf_spelling.specs.declared.front.Given.TheVariants.{Nothing, Byte}
+use Rattle.lf_spelling.specs.declared.item_reader.Given.{Given}
+use Rattle.lf_spelling.specs.declared.item_reader.Given.TheVariants.{Nothing, Byte}
 use Rattle.lf_format.specs.declared.slot.Slot.{Slot}
-use Rattle.lf_spelling.specs.Fronts.{IsFront, KeepsGiven, KeepsItem, given_bytes}
+use Rattle.lf_spelling.specs.ItemReaders.{ReadsItems, KeepsGiven, KeepsItem, given_bytes}
 use Rattle.lf_spelling.specs.ItemLaws.{at_both}
 use Rattle.lf_spelling.specs.Texts.{is_nothing}
 use Rattle.lf_format.specs.Keeps.{KeepsSlot}
@@ -44,7 +44,7 @@ item_keeps held bytes given next after (percent eb eg en) = at_both KeepsItem by
 item_keeps held bytes given next after (change flags changes stop eb eg en) = at_both KeepsItem bytes (spelling flags (codes "o")) given Nothing eb eg (record { good = tt; short = omega arith })
 item_keeps held bytes given next after (value flags name row changes is stop eb eg en) = at_both KeepsItem bytes (spelling flags name) given (given_of row.sort (slot_of name row (changed_by held flags))) eb eg (value_keeps held flags name row is)
 
-pub laws : IsFront reading item_is fault_is
+pub laws : ReadsItems reading item_is fault_is
 unfolding Fine Again
 laws = record {
   found = λ held text item after some read. subst (Fine held text) read (all_fine held text some);

@@ -1,3 +1,4 @@
+-- The definitions and laws of formats as HAProxy's log-format spells them.
 pub mod HaProxy
 pub mod Items
 pub mod Flags

@@ -1,4 +1,4 @@
--- What a reader finds at the front of a text.
+-- What a reader finds at the start of a text.
 use Rattle.std.specs.Prelude.{ℕ, ◌==◌, not, List, [], ◌∷◌, ◌++◌, Option, Some, None, codes, if◌then◌else◌}
 use Rattle.std.specs.Str.{bytes_eq}
 use Rattle.lf_spelling.specs.Runs.{run, past}
@@ -7,8 +7,8 @@ use Rattle.lf_spelling.specs.Enclosed.{is_unclosed}
 use Rattle.lf_spelling.specs.Items.{Item, Reading, Found, Failed}
 use Rattle.lf_spelling.specs.declared.fault.Cause.{Cause}
 use Rattle.lf_spelling.specs.declared.fault.Cause.TheVariants.{LineBreak, EmptyFormat, BadFlags, Unclosed, UnknownName, BadName}
-use Rattle.lf_spelling.specs.declared.front.Given.{Given}
-use Rattle.lf_spelling.specs.declared.front.Given.TheVariants.{Nothing, Byte}
+use Rattle.lf_spelling.specs.declared.item_reader.Given.{Given}
+use Rattle.lf_spelling.specs.declared.item_reader.Given.TheVariants.{Nothing, Byte}
 use Rattle.haproxy_front.specs.declared.flags.Flags.{Flags}
 use Rattle.haproxy_front.specs.declared.table.Row.{Row}
 use Rattle.haproxy_front.specs.Names.{is_alphanumeric}
@@ -48,7 +48,7 @@ abbrev pub on_percent : Flags → List ℕ → Reading Flags
 on_percent held [] = on_item held []
 on_percent held (c ∷ text) = if c == 37 then found (37 ∷ 37 ∷ []) (Byte 37) held text else on_item held (c ∷ text)
 
--- what is found at the front of a text
+-- what is found at the start of a text
 abbrev pub reading : Flags → List ℕ → Reading Flags
 reading held [] = Failed EmptyFormat
 reading held (b ∷ text) =
@@ -61,6 +61,6 @@ reading held (b ∷ text) =
 abbrev pub item_is : Flags → Item Flags → List ℕ → Type 0
 item_is held item after = IsItem held item.bytes item.given item.state after
 
--- No item stands at the front of these bytes, for this cause.
+-- No item stands at the start of these bytes, for this cause.
 abbrev pub fault_is : Flags → List ℕ → Cause → Type 0
 fault_is held text cause = HasFault text cause

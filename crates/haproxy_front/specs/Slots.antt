@@ -2,6 +2,7 @@
 use Rattle.std.specs.Prelude.{ℕ, pos, negsuc, ◌≤◌, ◌&&◌, Bool, true, false, List, ◌∷◌, if◌then◌else◌}
 use Rattle.std.specs.Int.Signed.{≤ℤ_refl}
 use Rattle.std.proofs.Common.{arith}
+use Rattle.lf_limits.specs.Limits.{most_length}
 use Rattle.lf_core.specs.declared.class.Class.{Class}
 use Rattle.lf_core.specs.declared.class.TheConstants.Class as classes
 use Rattle.lf_format.specs.declared.kind.Kind.{Kind}
@@ -12,8 +13,8 @@ use Rattle.lf_escape.specs.declared.coding.Coding.TheVariants.{Raw, HaHash, HaCa
 use Rattle.lf_format.specs.declared.slot.Absent.{Absent}
 use Rattle.lf_format.specs.declared.slot.Absent.TheVariants.{Blank}
 use Rattle.lf_format.specs.declared.slot.Slot.{Slot as OneSlot}
-use Rattle.lf_spelling.specs.declared.front.Given.{Given}
-use Rattle.lf_spelling.specs.declared.front.Given.TheVariants.{Slot, Braced}
+use Rattle.lf_spelling.specs.declared.item_reader.Given.{Given}
+use Rattle.lf_spelling.specs.declared.item_reader.Given.TheVariants.{Slot, Braced}
 use Rattle.lf_format.specs.CommonKinds.{zero_fits, one_fits, texts, bounded_texts, numbers, padded}
 use Rattle.haproxy_front.specs.declared.flags.Flags.{Flags}
 use Rattle.haproxy_front.specs.declared.table.Sort.{Sort}
@@ -43,10 +44,10 @@ request_letters flags = if flags.escapes then classes.HEADER else classes.ANY
 abbrev pub flagged_numbers : Flags → ℕ → Kind
 flagged_numbers flags most = if flags.hexadecimal then padded Sixteen 4 (pos 0) (pos most) (≤ℤ_refl (pos 0)) else numbers (pos 0) (pos most)
 
-pub two_fits : 2 ≤ 99999
+pub two_fits : 2 ≤ most_length
 two_fits = omega arith
 
-pub four_fits : 4 ≤ 99999
+pub four_fits : 4 ≤ most_length
 four_fits = omega arith
 
 -- the kind that a sort of values is

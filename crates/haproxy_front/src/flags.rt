@@ -31,6 +31,7 @@ fn is_change(sign: u8, letter: u8) -> bool
 }
 
 impl Flags {
+    /// No flag holds, as at the start of a text.
     pub const NONE: Flags = Flags {
         quotes: false,
         escapes: false,

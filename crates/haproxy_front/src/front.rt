@@ -10,11 +10,11 @@ ghost use Rattle.haproxy_front.specs.HaProxy.{Spells, IsFaulty, HasOneAnswer};
 use crate::flags::Flags;
 use crate::item::space_run;
 use lf_format::{Format, LineEnd};
-use lf_spelling::{Cause, FormatFault, Front, Given, ItemFault, Taken, read_text};
+use lf_spelling::{Cause, FormatFault, Given, ItemFault, ItemReader, Taken, read_text};
 use std::alloc::Global;
 
 /// HAProxy's language. Its states are the flags that hold.
-impl Front for Flags {
+impl ItemReader for Flags {
     ghost use Rattle.haproxy_front.specs.Reading.{item_is as ha_item_is, fault_is as ha_fault_is, reading as ha_reading};
     ghost use Rattle.haproxy_front.specs.Laws.{laws as ha_laws};
 

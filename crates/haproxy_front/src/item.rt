@@ -2,7 +2,7 @@
 
 ghost use Rattle.std.specs.Prelude.{◌≡◌, ◌∷◌, ◌++◌, ◌+◌, ◌<◌, ◌^◌, ℕ, List, length, nat_le};
 ghost use Rattle.std.specs.List.{prefix_len};
-ghost use Rattle.lf_spelling.specs.Fronts.{GivesItem};
+ghost use Rattle.lf_spelling.specs.ItemReaders.{GivesItem};
 ghost use Rattle.haproxy_front.specs.Names.{is_alphanumeric};
 ghost use Rattle.lf_spelling.specs.Runs.{run};
 ghost use Rattle.haproxy_front.specs.Items.{is_space};
@@ -20,21 +20,21 @@ fn is_name_byte(b: u8) -> bool
     (48 <= b && b <= 57) || (65 <= b && b <= 90) || (97 <= b && b <= 122)
 }
 
-/// How many spaces stand at the front.
+/// How many spaces stand at the start.
 pub fn space_run(text: &[u8]) -> usize
     ensures { result ≡ prefix_len is_space text.now }
 {
     text.iter().take_while(|b| **b == b' ').count()
 }
 
-/// How many letters and digits stand at the front.
+/// How many letters and digits stand at the start.
 fn name_run(text: &[u8]) -> usize
     ensures { result ≡ prefix_len is_alphanumeric text.now }
 {
     text.iter().take_while(|b| is_name_byte(**b)).count()
 }
 
-/// The letters and digits at the front.
+/// The letters and digits at the start.
 fn name_at(text: &[u8]) -> &str
     ensures { result.now ≡ run is_alphanumeric text.now }
 {
@@ -45,7 +45,7 @@ fn name_at(text: &[u8]) -> &str
 }
 
 impl Flags {
-    /// The name at the front of the text, under its own flags. The item has `before` bytes before it.
+    /// The name at the start of the text, under its own flags. The item has `before` bytes before it.
     fn named(
         &mut self,
         alloc: Global,

@@ -10,10 +10,13 @@ use lf_format::Absent;
 pub enum Sort {
     /// An address or a word of the protocol.
     Visible,
+    /// The name of a frontend, a backend or a server.
     Proxy,
+    /// A path, one letter or more and no space.
     Path,
     /// A cookie or an identifier.
     Cookie,
+    /// The query of a path, which may be empty.
     Query,
     /// A whole request line.
     Request,
@@ -21,15 +24,23 @@ pub enum Sort {
     Ending,
     /// The same, and what became of the cookies, in four letters.
     CookieEnding,
+    /// How often the server was tried again, in digits and `+`.
     Retries,
+    /// Captured headers, joined by line feeds, and printed in braces.
     Captures,
+    /// A number from 0 to 65535.
     Port,
     /// A second, a request's number or a process.
     Serial,
+    /// A number from -1 to 999.
     Status,
+    /// Milliseconds, or -1.
     Timer,
+    /// A number of bytes.
     Size,
+    /// A number of connections, or a place in a queue.
     Count,
+    /// A time without an offset.
     Time,
 }
 

@@ -1,25 +1,15 @@
 -- The words are one command.
-use Rattle.std.proofs.Common.{◌≡◌, ℕ, ◌≤◌, Bool, true, false, ◌&&◌, cond, List, [], ◌∷◌, length, refl, sym, ◌∙◌, ap, subst, inl, inr}
-use Rattle.std.specs.Prelude.{All, Option, None, Some}
-use Rattle.std.specs.List.{list_all}
-use Rattle.std.specs.Str.{IsUtf8}
-use Rattle.std.proofs.lemmas.Bool.{cases_Bool, false≢true, ltb-true}
-use Rattle.std.proofs.lemmas.List.Elements.{All-nil, All-cons}
+use Rattle.std.proofs.Common.{◌≡◌, ℕ, Bool, true, false, cond, List, refl, sym, ◌∙◌, ap, subst, inl, inr}
+use Rattle.std.specs.Prelude.{Option, None, Some}
+use Rattle.std.proofs.lemmas.Bool.{cases_Bool, false≢true}
 use Rattle.lf_compile.specs.Accepted.{IsAccepted, IsCauseOf, IsAnswer}
 use Rattle.lf_compile.specs.declared.refused.Confusion.{Confusion}
 use Rattle.lf_compile.specs.declared.refused.Refused.{Refused}
 use Rattle.lf_compile.specs.declared.refused.Refused.TheVariants as causes
 use Rattle.lf_format.specs.Shape.{Shape}
 use Rattle.lf_format.specs.Keeps.{EachKept}
-use Rattle.lf_format.specs.declared.format.Piece.{Piece}
-use Rattle.lf_format.specs.declared.format.Piece.TheVariants as piece
-use Rattle.lf_spelling.specs.declared.fault.Cause.{Cause}
-use Rattle.lf_fronts.specs.Fronts.{Spells, HasOneAnswer}
-use Rattle.lf_fronts.specs.Keeps.{is_byte, AreOfBytes, IsFormat}
-use Rattle.lf_limits.specs.Limits.{most_text_bytes}
-use Rattle.lf_machine.specs.LineBytes.{IsByte, LiteralsAreBytes}
+use Rattle.lf_machine.specs.LineBytes.{LiteralsAreBytes}
 use Rattle.lf_words.specs.declared.command.Command.{Command as CommandLine}
-use Rattle.lf_words.specs.declared.command.Front.{Front}
 use Rattle.lf_words.specs.declared.command.Side.{Side}
 use Rattle.lf_words.specs.declared.command.Verb.{Verb}
 use Rattle.lf_words.specs.declared.command.Verb.TheVariants as verbs
@@ -27,13 +17,17 @@ use Rattle.lf_words.specs.Command.{IsCommand as IsLine, IsOneCommandOrBad, IsWor
 use Rattle.lf_app.specs.declared.commands.Command.{Command}
 use Rattle.lf_app.specs.declared.commands.Command.TheVariants.{Lines, Refuse}
 use Rattle.lf_app.specs.declared.commands.Job.TheVariants as jobs
+use Rattle.lf_app.specs.declared.commands.Refusal.{Refusal}
 use Rattle.lf_app.specs.declared.commands.Refusal.TheVariants as refusals
+use Rattle.lf_app.specs.Sides.{Gives}
 use Rattle.lf_app.specs.Commands.{IsAsked, faulty, plain, accepted, refused, plain_command, accepted_command, confused_command, IsRefusedFor, AsksFor, IsLineFor, IsCommand, HasOneCommand, is_built, is_compiling}
 use Rattle.lf_app.specs.Progress.{IsReady, HasRecords}
+use Rattle.lf_app.proofs.SideLaws.{HasOneSide, SpelledKeeps, NarrowedKeeps, IsKept, gives_kept, side_tells}
 use Rattle.lf_json.proofs.Sorts.{record_json}
 
-abbrev pub SpellsOne : Type 0
-SpellsOne = (front : Front) (text : List ℕ) → HasOneAnswer front text
+-- Each side gives one format, or it is refused for one thing.
+abbrev pub SidesAreOne : Type 0
+SidesAreOne = (side : Side) → HasOneSide side
 
 -- Each format has one answer at most.
 abbrev pub AnswersOnce : Type 0
@@ -63,46 +57,44 @@ refused_same v causes.OutOfMemory a b p q = absurd p
 not_memory : (v : Verb) (cause : Refused) (a : Command) → IsRefusedFor v cause a → cause ≡ causes.OutOfMemory → ⊥
 not_memory v cause a p e = subst (λ (x : Refused). IsRefusedFor v x a) e p
 
--- A verb asks for one thing by a text.
-asked_one : (v : Verb) (source : Side) (a b : Command) → SpellsOne → AnswersOnce → IsAsked v source a → IsAsked v source b → a ≡ b
-asked_one v source a b one once (faulty p x f e) (faulty q y g d) =
-    let same = (one source.front source.format).one_fault p q x y f g in
-    e ∙ ap (λ (n : ℕ). Refuse (refusals.BadFormat n x)) same.0 ∙ ap (λ (z : Cause). Refuse (refusals.BadFormat q z)) same.1 ∙ sym d
-asked_one v source a b one once (faulty p x f e) (plain g s t d) = absurd ((one source.front source.format).not_both g p x s f)
-asked_one v source a b one once (faulty p x f e) (accepted g s t h d) = absurd ((one source.front source.format).not_both g p x s f)
-asked_one v source a b one once (faulty p x f e) (refused g cause s t h d) = absurd ((one source.front source.format).not_both g p x s f)
-asked_one v source a b one once (plain g s t d) (faulty q y f e) = absurd ((one source.front source.format).not_both g q y s f)
-asked_one v source a b one once (accepted g s t h d) (faulty q y f e) = absurd ((one source.front source.format).not_both g q y s f)
-asked_one v source a b one once (refused g cause s t h d) (faulty q y f e) = absurd ((one source.front source.format).not_both g q y s f)
-asked_one v source a b one once (plain g s t d) (plain f r u e) = d ∙ ap (plain_command v) ((one source.front source.format).one_format g f s r) ∙ sym e
+-- A verb asks for one thing of a side.
+asked_one : (v : Verb) (source : Side) (a b : Command) → SidesAreOne → AnswersOnce → IsAsked v source a → IsAsked v source b → a ≡ b
+asked_one v source a b one once (faulty p f e) (faulty q g d) = e ∙ ap (λ (r : Refusal). Refuse r) ((one source).one_refusal p q f g) ∙ sym d
+asked_one v source a b one once (faulty p f e) (plain g s t d) = absurd ((one source).not_both g p s f)
+asked_one v source a b one once (faulty p f e) (accepted g s t h d) = absurd ((one source).not_both g p s f)
+asked_one v source a b one once (faulty p f e) (refused g cause s t h d) = absurd ((one source).not_both g p s f)
+asked_one v source a b one once (plain g s t d) (faulty q f e) = absurd ((one source).not_both g q s f)
+asked_one v source a b one once (accepted g s t h d) (faulty q f e) = absurd ((one source).not_both g q s f)
+asked_one v source a b one once (refused g cause s t h d) (faulty q f e) = absurd ((one source).not_both g q s f)
+asked_one v source a b one once (plain g s t d) (plain f r u e) = d ∙ ap (plain_command v) ((one source).one_format g f s r) ∙ sym e
 asked_one v source a b one once (plain g s t d) (accepted f r u h e) = absurd (false≢true (sym t ∙ u))
 asked_one v source a b one once (plain g s t d) (refused f cause r u h e) = absurd (false≢true (sym t ∙ u))
 asked_one v source a b one once (accepted g s t h d) (plain f r u e) = absurd (false≢true (sym u ∙ t))
 asked_one v source a b one once (refused g cause s t h d) (plain f r u e) = absurd (false≢true (sym u ∙ t))
-asked_one v source a b one once (accepted g s t h d) (accepted f r u k e) = d ∙ ap (accepted_command v) ((one source.front source.format).one_format g f s r) ∙ sym e
+asked_one v source a b one once (accepted g s t h d) (accepted f r u k e) = d ∙ ap (accepted_command v) ((one source).one_format g f s r) ∙ sym e
 asked_one v source a b one once (accepted g s t h d) (refused f cause r u k e) =
-    let same = (one source.front source.format).one_format f g r s in
+    let same = (one source).one_format f g r s in
     absurd (no_cause once g cause h (subst (λ (x : Shape). IsCauseOf x cause) same k) (not_memory v cause b e))
 asked_one v source a b one once (refused g cause s t h d) (accepted f r u k e) =
-    let same = (one source.front source.format).one_format g f s r in
+    let same = (one source).one_format g f s r in
     absurd (no_cause once f cause k (subst (λ (x : Shape). IsCauseOf x cause) same h) (not_memory v cause a d))
 asked_one v source a b one once (refused g cause s t h d) (refused f other r u k e) =
-    let same = (one source.front source.format).one_format g f s r in
+    let same = (one source).one_format g f s r in
     let causes_same = one_cause once f cause other (subst (λ (x : Shape). IsCauseOf x cause) same h) k (not_memory v cause a d) (not_memory v other b e) in
     refused_same v other a b (subst (λ (x : Refused). IsRefusedFor v x a) causes_same d) e
 
 -- What a command line asks for, where it is built, and where it isn't.
-pub asks-built : (line : CommandLine) (c : Command) → is_built line ≡ true → AsksFor line c → IsAsked line.verb line.source c
+pub asks-built : (line : CommandLine) (c : Command) → is_built line.verb ≡ true → AsksFor line c → IsAsked line.verb line.source c
 asks-built line c t h = subst (λ (b : Bool). cond b (IsAsked line.verb line.source c) (c ≡ Refuse refusals.NotBuilt)) t h
 
-pub asked-built : (line : CommandLine) (c : Command) → is_built line ≡ true → IsAsked line.verb line.source c → AsksFor line c
+pub asked-built : (line : CommandLine) (c : Command) → is_built line.verb ≡ true → IsAsked line.verb line.source c → AsksFor line c
 asked-built line c t h = subst (λ (b : Bool). cond b (IsAsked line.verb line.source c) (c ≡ Refuse refusals.NotBuilt)) (sym t) h
 
-pub asks-other : (line : CommandLine) (c : Command) → is_built line ≡ false → AsksFor line c → c ≡ Refuse refusals.NotBuilt
+pub asks-other : (line : CommandLine) (c : Command) → is_built line.verb ≡ false → AsksFor line c → c ≡ Refuse refusals.NotBuilt
 asks-other line c f h = subst (λ (b : Bool). cond b (IsAsked line.verb line.source c) (c ≡ Refuse refusals.NotBuilt)) f h
 
-asks_one : (line : CommandLine) (a b : Command) → SpellsOne → AnswersOnce → AsksFor line a → AsksFor line b → a ≡ b
-asks_one line a b one once p q = elim (cases_Bool (is_built line)) [
+asks_one : (line : CommandLine) (a b : Command) → SidesAreOne → AnswersOnce → AsksFor line a → AsksFor line b → a ≡ b
+asks_one line a b one once p q = elim (cases_Bool (is_built line.verb)) [
   | inl t ↦ asked_one line.verb line.source a b one once (asks-built line a t p) (asks-built line b t q)
   | inr f ↦ asks-other line a f p ∙ sym (asks-other line b f q)
 ]
@@ -110,7 +102,7 @@ asks_one line a b one once p q = elim (cases_Bool (is_built line)) [
 abbrev pub LinesAreOne : Type 0
 LinesAreOne = (words : List (List ℕ)) → IsOneCommandOrBad words
 
-line_for_one : (words : List (List ℕ)) (a b : Command) → LinesAreOne → SpellsOne → AnswersOnce → IsLineFor words a → IsLineFor words b → a ≡ b
+line_for_one : (words : List (List ℕ)) (a b : Command) → LinesAreOne → SidesAreOne → AnswersOnce → IsLineFor words a → IsLineFor words b → a ≡ b
 line_for_one words a b lines one once p q = elim (lines words) [
   | inl u ↦
       let same : q.line ≡ p.line = u.2 q.line q.is ∙ sym (u.2 p.line p.is) in
@@ -119,7 +111,7 @@ line_for_one words a b lines one once p q = elim (lines words) [
 ]
 
 -- Words are no two commands.
-command_one : (words : List (List ℕ)) (a b : Command) → LinesAreOne → SpellsOne → AnswersOnce → IsCommand words a → IsCommand words b → a ≡ b
+command_one : (words : List (List ℕ)) (a b : Command) → LinesAreOne → SidesAreOne → AnswersOnce → IsCommand words a → IsCommand words b → a ≡ b
 command_one words a b lines one once (inl bad) (inl other) = bad.1 ∙ sym other.1
 command_one words a b lines one once (inl bad) (inr line) = absurd (bad.0 line.line line.is)
 command_one words a b lines one once (inr line) (inl bad) = absurd (bad.0 line.line line.is)
@@ -131,74 +123,51 @@ command_one words a b lines one once (inr line) (inr other) = line_for_one words
 abbrev pub FormatsAreWords : Type 0
 FormatsAreWords = (words : List (List ℕ)) (line : CommandLine) → IsLine words line → IsWord line.source.format
 
--- What a text spells keeps what a format keeps.
-abbrev pub SpelledKeeps : Type 0
-SpelledKeeps = (front : Front) (text : List ℕ) (format : Shape) → IsUtf8 text → length text ≤ most_text_bytes → Spells front text format → IsFormat format
-
 -- Each format that keeps what a format keeps has an answer.
 abbrev pub AnswersSome : Type 0
 AnswersSome = (format : Shape) → EachKept format.pieces → LiteralsAreBytes format.pieces → (answer : Option Refused) × IsAnswer format answer
 
-both_true : (a b : Bool) → (a && b) ≡ true → (a ≡ true) × (b ≡ true)
-both_true true b e = (refl, e)
-both_true false b e = absurd (cc)
-
-all_bytes : (text : List ℕ) → list_all is_byte text ≡ true → All IsByte text
-all_bytes [] h = All-nil IsByte
-all_bytes (b ∷ text) h =
-    let both = both_true (is_byte b) (list_all is_byte text) h in
-    All-cons IsByte b text (ltb-true b 256 both.0) (all_bytes text both.1)
-
-literals : (pieces : List Piece) → AreOfBytes pieces → LiteralsAreBytes pieces
-literals [] h = tt
-literals (piece.Literal text ∷ pieces) h = (all_bytes text h.0, literals pieces h.1)
-literals (piece.Slot slot ∷ pieces) h = (tt, literals pieces h)
-
--- A format that a command line spells keeps what a format keeps, and its literals are bytes.
-format_kept : SpelledKeeps → (source : Side) (format : Shape) → IsWord source.format → Spells source.front source.format format → EachKept format.pieces × LiteralsAreBytes format.pieces
-format_kept keeps source format word s = let kept = keeps source.front source.format format word.text word.short s in (kept.keeps.each, literals format.pieces kept.bytes)
-
-answered : (v : Verb) (source : Side) (format : Shape) → Spells source.front source.format format → is_compiling v ≡ true → (answer : Option Refused) → IsAnswer format answer → (c : Command) × IsAsked v source c
+answered : (v : Verb) (source : Side) (format : Shape) → Gives source format → is_compiling v ≡ true → (answer : Option Refused) → IsAnswer format answer → (c : Command) × IsAsked v source c
 answered v source format s t None h = (accepted_command v format, accepted format s t h refl)
 answered v source format s t (Some (causes.TooLarge size)) h = (Refuse (refusals.TooLarge size), refused format (causes.TooLarge size) s t h.0 refl)
 answered v source format s t (Some (causes.Hash rec)) h = (Refuse (refusals.NoteLine rec), refused format (causes.Hash rec) s t h.0 refl)
 answered v source format s t (Some (causes.Ambiguous confusion)) h = (confused_command v confusion, refused format (causes.Ambiguous confusion) s t h.0 refl)
 answered v source format s t (Some causes.OutOfMemory) h = absurd (h.1 refl)
 
-spelled_asks : (v : Verb) (source : Side) (format : Shape) → SpelledKeeps → AnswersSome → IsWord source.format → Spells source.front source.format format → (c : Command) × IsAsked v source c
-spelled_asks v source format keeps answers word s = elim (cases_Bool (is_compiling v)) [
+given_asks : (v : Verb) (source : Side) (format : Shape) → SpelledKeeps → NarrowedKeeps → AnswersSome → IsWord source.format → Gives source format → (c : Command) × IsAsked v source c
+given_asks v source format spelled narrowed answers word s = elim (cases_Bool (is_compiling v)) [
   | inl t ↦
-      let kept = format_kept keeps source format word s in
+      let kept = gives_kept source format spelled narrowed word s in
       let answer = answers format kept.0 kept.1 in
       answered v source format s t answer.0 answer.1
   | inr f ↦ (plain_command v format, plain format s f refl)
 ]
 
-some_asked : (v : Verb) (source : Side) → SpellsOne → SpelledKeeps → AnswersSome → IsWord source.format → (c : Command) × IsAsked v source c
-some_asked v source one keeps answers word = elim (one source.front source.format).some [
-  | inl spelled ↦ spelled_asks v source spelled.0 keeps answers word spelled.1
-  | inr fault ↦ (Refuse (refusals.BadFormat fault.0 fault.1), faulty fault.0 fault.1 fault.2 refl)
+some_asked : (v : Verb) (source : Side) → SidesAreOne → SpelledKeeps → NarrowedKeeps → AnswersSome → IsWord source.format → (c : Command) × IsAsked v source c
+some_asked v source one spelled narrowed answers word = elim (one source).some [
+  | inl given ↦ given_asks v source given.0 spelled narrowed answers word given.1
+  | inr fault ↦ (Refuse fault.0, faulty fault.0 fault.1 refl)
 ]
 
-asked-other : (line : CommandLine) → is_built line ≡ false → AsksFor line (Refuse refusals.NotBuilt)
+asked-other : (line : CommandLine) → is_built line.verb ≡ false → AsksFor line (Refuse refusals.NotBuilt)
 asked-other line f = subst (λ (b : Bool). cond b (IsAsked line.verb line.source (Refuse refusals.NotBuilt)) (Refuse refusals.NotBuilt ≡ Refuse refusals.NotBuilt)) (sym f) refl
 
-some_asks : (line : CommandLine) → SpellsOne → SpelledKeeps → AnswersSome → IsWord line.source.format → (c : Command) × AsksFor line c
-some_asks line one keeps answers word = elim (cases_Bool (is_built line)) [
-  | inl t ↦ let asked = some_asked line.verb line.source one keeps answers word in (asked.0, asked-built line asked.0 t asked.1)
+some_asks : (line : CommandLine) → SidesAreOne → SpelledKeeps → NarrowedKeeps → AnswersSome → IsWord line.source.format → (c : Command) × AsksFor line c
+some_asks line one spelled narrowed answers word = elim (cases_Bool (is_built line.verb)) [
+  | inl t ↦ let asked = some_asked line.verb line.source one spelled narrowed answers word in (asked.0, asked-built line asked.0 t asked.1)
   | inr f ↦ (Refuse refusals.NotBuilt, asked-other line f)
 ]
 
-some_command : (words : List (List ℕ)) → LinesAreOne → FormatsAreWords → SpellsOne → SpelledKeeps → AnswersSome → (c : Command) × IsCommand words c
-some_command words lines formats one keeps answers = elim (lines words) [
-  | inl line ↦ let asks = some_asks line.0 one keeps answers (formats words line.0 line.1) in (asks.0, inr (record { line = line.0; is = line.1; asks = asks.1 }))
+some_command : (words : List (List ℕ)) → LinesAreOne → FormatsAreWords → SidesAreOne → SpelledKeeps → NarrowedKeeps → AnswersSome → (c : Command) × IsCommand words c
+some_command words lines formats one spelled narrowed answers = elim (lines words) [
+  | inl line ↦ let asks = some_asks line.0 one spelled narrowed answers (formats words line.0 line.1) in (asks.0, inr (record { line = line.0; is = line.1; asks = asks.1 }))
   | inr bad ↦ (Refuse refusals.BadWords, inl (bad, refl))
 ]
 
 -- Any words are one command.
-pub words_one : (words : List (List ℕ)) → LinesAreOne → FormatsAreWords → SpellsOne → SpelledKeeps → AnswersOnce → AnswersSome → HasOneCommand words
-words_one words lines formats one keeps once answers =
-    let some = some_command words lines formats one keeps answers in
+pub words_one : (words : List (List ℕ)) → LinesAreOne → FormatsAreWords → SidesAreOne → SpelledKeeps → NarrowedKeeps → AnswersOnce → AnswersSome → HasOneCommand words
+words_one words lines formats one spelled narrowed once answers =
+    let some = some_command words lines formats one spelled narrowed answers in
     record { command = some.0; is = some.1; only = λ other h. command_one words other some.0 lines one once h some.1 }
 
 -- Two commands that words are are the same.
@@ -242,7 +211,7 @@ refused_ready v format (causes.Ambiguous confusion) c h e = subst IsReady (sym e
 refused_ready v format causes.OutOfMemory c h e = absurd e
 
 asked_ready : (v : Verb) (source : Side) (c : Command) → IsAsked v source c → IsReady c
-asked_ready v source c (faulty p x f e) = subst IsReady (sym e) tt
+asked_ready v source c (faulty p f e) = subst IsReady (sym e) (side_tells source p f)
 asked_ready v source c (plain format s t e) = subst IsReady (sym e) (plain_ready v format)
 asked_ready v source c (accepted format s t h e) = subst IsReady (sym e) (accepted_ready v format h)
 asked_ready v source c (refused format cause s t h e) = refused_ready v format cause c h e
@@ -250,14 +219,14 @@ asked_ready v source c (refused format cause s t h e) = refused_ready v format c
 -- A command that words are can be done.
 pub command_ready : (words : List (List ℕ)) (c : Command) → IsCommand words c → IsReady c
 command_ready words c (inl bad) = subst IsReady (sym bad.1) tt
-command_ready words c (inr h) = elim (cases_Bool (is_built h.line)) [
+command_ready words c (inr h) = elim (cases_Bool (is_built h.line.verb)) [
   | inl t ↦ asked_ready h.line.verb h.line.source c (asks-built h.line c t h.asks)
   | inr f ↦ subst IsReady (sym (asks-other h.line c f h.asks)) tt
 ]
 
 -- Where lines are read by a format, it keeps what each slot of a format keeps, and its literals are bytes.
 abbrev pub KeepsBytes : Command → Type 0
-KeepsBytes (Lines (jobs.Read format)) = EachKept format.pieces × LiteralsAreBytes format.pieces
+KeepsBytes (Lines (jobs.Read format)) = IsKept format
 KeepsBytes command = Unit {0}
 
 plain_keeps : (v : Verb) (format : Shape) → KeepsBytes (plain_command v format)
@@ -268,7 +237,7 @@ plain_keeps verbs.Translate format = tt
 plain_keeps verbs.Show format = tt
 plain_keeps verbs.Gen format = tt
 
-accepted_keeps : (v : Verb) (format : Shape) → EachKept format.pieces × LiteralsAreBytes format.pieces → KeepsBytes (accepted_command v format)
+accepted_keeps : (v : Verb) (format : Shape) → IsKept format → KeepsBytes (accepted_command v format)
 accepted_keeps verbs.Check format kept = tt
 accepted_keeps verbs.Read format kept = kept
 accepted_keeps verbs.Write format kept = tt
@@ -290,15 +259,15 @@ refused_keeps v (causes.Hash rec) c e = subst KeepsBytes (sym e) tt
 refused_keeps v (causes.Ambiguous confusion) c e = subst KeepsBytes (sym e) (confused_keeps v confusion)
 refused_keeps v causes.OutOfMemory c e = absurd e
 
-asked_keeps : (v : Verb) (source : Side) (c : Command) → SpelledKeeps → IsWord source.format → IsAsked v source c → KeepsBytes c
-asked_keeps v source c keeps word (faulty p x f e) = subst KeepsBytes (sym e) tt
-asked_keeps v source c keeps word (plain format s t e) = subst KeepsBytes (sym e) (plain_keeps v format)
-asked_keeps v source c keeps word (accepted format s t h e) = subst KeepsBytes (sym e) (accepted_keeps v format (format_kept keeps source format word s))
-asked_keeps v source c keeps word (refused format cause s t h e) = refused_keeps v cause c e
+asked_keeps : (v : Verb) (source : Side) (c : Command) → SpelledKeeps → NarrowedKeeps → IsWord source.format → IsAsked v source c → KeepsBytes c
+asked_keeps v source c spelled narrowed word (faulty p f e) = subst KeepsBytes (sym e) tt
+asked_keeps v source c spelled narrowed word (plain format s t e) = subst KeepsBytes (sym e) (plain_keeps v format)
+asked_keeps v source c spelled narrowed word (accepted format s t h e) = subst KeepsBytes (sym e) (accepted_keeps v format (gives_kept source format spelled narrowed word s))
+asked_keeps v source c spelled narrowed word (refused format cause s t h e) = refused_keeps v cause c e
 
-pub command_keeps : (words : List (List ℕ)) (c : Command) → FormatsAreWords → SpelledKeeps → IsCommand words c → KeepsBytes c
-command_keeps words c formats keeps (inl bad) = subst KeepsBytes (sym bad.1) tt
-command_keeps words c formats keeps (inr h) = elim (cases_Bool (is_built h.line)) [
-  | inl t ↦ asked_keeps h.line.verb h.line.source c keeps (formats words h.line h.is) (asks-built h.line c t h.asks)
+pub command_keeps : (words : List (List ℕ)) (c : Command) → FormatsAreWords → SpelledKeeps → NarrowedKeeps → IsCommand words c → KeepsBytes c
+command_keeps words c formats spelled narrowed (inl bad) = subst KeepsBytes (sym bad.1) tt
+command_keeps words c formats spelled narrowed (inr h) = elim (cases_Bool (is_built h.line.verb)) [
+  | inl t ↦ asked_keeps h.line.verb h.line.source c spelled narrowed (formats words h.line h.is) (asks-built h.line c t h.asks)
   | inr f ↦ subst KeepsBytes (sym (asks-other h.line c f h.asks)) tt
 ]

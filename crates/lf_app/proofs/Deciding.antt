@@ -26,7 +26,8 @@ use Rattle.lf_app.specs.Outcome.{Outcome, outcome_of, shown, HasOneOutcome}
 use Rattle.lf_app.specs.Progress.{CanWork}
 use Rattle.lf_app.specs.Verdicts.{has_notes, IsFound, IsVerdict, AreVerdicts}
 use Rattle.lf_app.proofs.VerdictLaws.{one_verdict}
-use Rattle.lf_app.proofs.CommandLaws.{FormatsAreWords, SpelledKeeps, KeepsBytes, command_ready, command_keeps}
+use Rattle.lf_app.proofs.CommandLaws.{FormatsAreWords, KeepsBytes, command_ready, command_keeps}
+use Rattle.lf_app.proofs.SideLaws.{SpelledKeeps, NarrowedKeeps}
 use Rattle.lf_app.proofs.RunLaws.{IsTold, told_readable, told_witness, told_shown, told_refused}
 
 abbrev pub LinesAreRead : Type 0
@@ -36,7 +37,7 @@ abbrev pub LinesAreDecided : Type 0
 LinesAreDecided = (pieces : List Piece) → EachKept pieces → LiteralsAreBytes pieces → (line : List ℕ) → ((rec : List Value) × Prints pieces rec line) ⊎ PrintsNone pieces line
 
 found_written : (format : Shape) (line : List ℕ) (answer : Result (List Value) BadRecord) → ReadsJson format.pieces line answer → (f : Finding) × IsFound (jobs.Write format) line f
-found_written format line (Ok r) h = (finding.Written r, h)
+found_written format line (Ok r) h = (finding.Given r, h)
 found_written format line (Err bad) h = (finding.Bad bad, h)
 
 some_finding : (job : Job) (line : List ℕ) → LinesAreRead → LinesAreDecided → KeepsBytes (Lines job) → (f : Finding) × IsFound job line f
@@ -77,13 +78,13 @@ same_verdicts job (line ∷ lines) (v ∷ vs) (w ∷ ws) can p q =
 told_once : (c : Command) (input : List ℕ) (o : Outcome) → IsTold c o → HasOneOutcome c input
 told_once c input o told = record { outcome = o; has = told.has input; only = told.only input }
 
-pub one_outcome : (words : List (List ℕ)) (command : Command) (input : List ℕ) → LinesAreRead → LinesAreDecided → FormatsAreWords → SpelledKeeps → IsCommand words command → HasOneOutcome command input
-one_outcome words (Readable slots) input reads decided formats keeps is = told_once (Readable slots) input _ (told_readable slots)
-one_outcome words (Witness confusion) input reads decided formats keeps is = told_once (Witness confusion) input _ (told_witness confusion)
-one_outcome words (Show format) input reads decided formats keeps is = told_once (Show format) input (shown format) (told_shown format)
-one_outcome words (Refuse refusal) input reads decided formats keeps is = told_once (Refuse refusal) input _ (told_refused refusal)
-one_outcome words (Lines job) input reads decided formats keeps is =
-    let kept = command_keeps words (Lines job) formats keeps is in
+pub one_outcome : (words : List (List ℕ)) (command : Command) (input : List ℕ) → LinesAreRead → LinesAreDecided → FormatsAreWords → SpelledKeeps → NarrowedKeeps → IsCommand words command → HasOneOutcome command input
+one_outcome words (Readable slots) input reads decided formats spelled narrowed is = told_once (Readable slots) input _ (told_readable slots)
+one_outcome words (Witness confusion) input reads decided formats spelled narrowed is = told_once (Witness confusion) input _ (told_witness confusion)
+one_outcome words (Show format) input reads decided formats spelled narrowed is = told_once (Show format) input (shown format) (told_shown format)
+one_outcome words (Refuse refusal) input reads decided formats spelled narrowed is = told_once (Refuse refusal) input _ (told_refused refusal)
+one_outcome words (Lines job) input reads decided formats spelled narrowed is =
+    let kept = command_keeps words (Lines job) formats spelled narrowed is in
     let ready = command_ready words (Lines job) is in
     let found = some_verdicts job (lines_of (has_notes job) input) reads decided kept in
     record {

@@ -3,6 +3,7 @@ pub mod LineLaws
 pub mod VerdictLaws
 pub mod Steps
 pub mod RunLaws
+pub mod SideLaws
 pub mod CommandLaws
 pub mod Deciding
 pub mod Texts

@@ -24,14 +24,14 @@ use Rattle.lf_core.specs.declared.memory.OutOfMemory.{OutOfMemory}
 use Rattle.std.specs.Fmt.{decimal}
 use Rattle.lf_app.specs.Outcome.{Outcome, shown, told_out, told_err, witness_text, refusal_text, refusal_status, outcome_of, HasOutcome}
 use Rattle.lf_app.specs.Commands.{TakesInput}
-use Rattle.lf_app.specs.Run.{IsFinal, IsCut, Reads, Front, IsSettled, IsCutStream, IsSinkFault, IsNoMemory, IsComplete}
+use Rattle.lf_app.specs.Run.{IsFinal, IsCut, Reads, WritesPart, IsSettled, IsCutStream, IsSinkFault, IsNoMemory, IsComplete}
 use Rattle.lf_app.specs.Promise.{KeepsLimit, Runs, Tells, Says, TellsText}
 use Rattle.lf_app.specs.Progress.{CanWork, HasRead, Reports, Grows}
 use Rattle.lf_app.specs.Flush.{HasCauses, Follows}
 use Rattle.lf_app.proofs.LineLaws.{lines_grow}
 use Rattle.lf_app.proofs.VerdictLaws.{verdicts_front, out_append, err_append, listed_append}
 
--- What was taken is a front of what the source had left.
+-- What was taken is a prefix of what the source had left.
 pub takes_front : (left later : Option (List ℕ)) (taken input : List ℕ) → left ≡ Some input → Takes left later taken → (rest : List ℕ) × (input ≡ taken ++ rest) × (later ≡ Some rest)
 takes_front None later taken input e t = cc
 takes_front (Some xs) None taken input e t = absurd t
@@ -45,28 +45,28 @@ outcome_goes_on job lines report taken more found o can r has =
     let later = verdicts_front job (lines_of (has_notes job) (whole_part taken)) grown.0 found has.0 can r.verdicts verdicts in
     (later.0, has.2 ∙ ap (outcome_of job) later.1)
 
-pub front_longer : (a b : List ℕ) (P : List ℕ → Type 0) → Front a P → Front (a ++ b) P
-front_longer a b P f = (f.0, (f.1.0 ++ b, ap (λ w. w ++ b) f.1.1 ∙ append_assoc f.0 f.1.0 b), f.2)
+pub part_longer : (a b : List ℕ) (P : List ℕ → Type 0) → WritesPart a P → WritesPart (a ++ b) P
+part_longer a b P f = (f.0, (f.1.0 ++ b, ap (λ w. w ++ b) f.1.1 ∙ append_assoc f.0 f.1.0 b), f.2)
 
-pub front_all : (a : List ℕ) (P : List ℕ → Type 0) → P a → Front a P
-front_all a P p = (a, ([], sym (append-nil a)), p)
+pub part_all : (a : List ℕ) (P : List ℕ → Type 0) → P a → WritesPart a P
+part_all a P p = (a, ([], sym (append-nil a)), p)
 
--- Of outcomes that begin with what was found, fronts were written.
-pub fronts_found : (job : Job) (found later : List Verdict) (o : Outcome) (out err : List ℕ → Type 0) → o ≡ outcome_of job (found ++ later) → Front (out_text job found) out → Front (err_text 1 found) err → Front o.out out × Front o.err err
-fronts_found job found later o out err is p q =
+-- Of outcomes that begin with what was found, prefixes were written.
+pub parts_found : (job : Job) (found later : List Verdict) (o : Outcome) (out err : List ℕ → Type 0) → o ≡ outcome_of job (found ++ later) → WritesPart (out_text job found) out → WritesPart (err_text 1 found) err → WritesPart o.out out × WritesPart o.err err
+parts_found job found later o out err is p q =
     let goes : (o : Outcome) → o ≡ outcome_of job (found ++ later) → (o.out ≡ out_text job found ++ out_text job later) × (o.err ≡ err_text 1 found ++ err_text (1 + length found) later) =
     λ o is. (ap (λ (o : Outcome). o.out) is ∙ out_append job found later, ap (λ (o : Outcome). o.err) is ∙ err_append 1 found later) in
     let e = goes o is in (
-      subst (λ (w : List ℕ). Front w out) (sym e.0) (front_longer (out_text job found) (out_text job later) out p),
-      subst (λ (w : List ℕ). Front w err) (sym e.1) (front_longer (err_text 1 found) (err_text (1 + length found) later) err q),
+      subst (λ (w : List ℕ). WritesPart w out) (sym e.0) (part_longer (out_text job found) (out_text job later) out p),
+      subst (λ (w : List ℕ). WritesPart w err) (sym e.1) (part_longer (err_text 1 found) (err_text (1 + length found) later) err q),
     )
 
 -- A status that is not final settles nothing.
 pub settled_never : (c : Command) (status : ℕ) (left later : Option (List ℕ)) (out err : List ℕ → Type 0) → (IsFinal status → ⊥) → IsSettled c status left later out err
 settled_never c status left later out err never = record { ends = λ final. absurd (never final); at_end = λ final. absurd (never final) }
 
--- A run that stops short, by a sink or for want of memory, has written fronts.
-pub runs_short : (job : Job) (lines : Cutter) (report : Report) (status : ℕ) (left now : Option (List ℕ)) (out err : List ℕ → Type 0) (taken more : List ℕ) (found : List Verdict) → CanWork job → HasRead job false lines report taken found → Takes left now (taken ++ more) → length (taken ++ more) ≤ most_run_bytes → Front (out_text job found) out → Front (err_text 1 found) err → (status ≡ 5) ⊎ (status ≡ 6) → Runs (Lines job) status left now out err
+-- A run that stops short, by a sink or for want of memory, has written prefixes.
+pub runs_short : (job : Job) (lines : Cutter) (report : Report) (status : ℕ) (left now : Option (List ℕ)) (out err : List ℕ → Type 0) (taken more : List ℕ) (found : List Verdict) → CanWork job → HasRead job false lines report taken found → Takes left now (taken ++ more) → length (taken ++ more) ≤ most_run_bytes → WritesPart (out_text job found) out → WritesPart (err_text 1 found) err → (status ≡ 5) ⊎ (status ≡ 6) → Runs (Lines job) status left now out err
 runs_short job lines report status left now out err taken more found can r takes most p q is = record {
   settled = settled_never (Lines job) status left now out err (λ final. omega (arith, is, final));
   reads = λ broken. absurd (omega (arith, is, broken));
@@ -75,7 +75,7 @@ runs_short job lines report status left now out err taken more found can r takes
         let rest = takes_front left now (taken ++ more) input told takes in
         let longer : input ≡ taken ++ (more ++ rest.0) = rest.1 ∙ append_assoc taken more rest.0 in
         let later = outcome_goes_on job lines report taken (more ++ rest.0) found o can r (subst (λ (w : List ℕ). HasOutcome (Lines job) w o) longer has) in
-        fronts_found job found later.0 o out err later.1 p q
+        parts_found job found later.0 o out err later.1 p q
     | inr none ↦ absurd (none tt)
   ];
   limit = record { taken = taken ++ more; takes = takes; most = most; full = λ _. elim is [ inl five ↦ inl five | inr six ↦ inr (inl six) ]; endless = λ e. absurd (omega (arith, is, e)); whole_lines = λ broken. absurd (omega (arith, is, broken)) };
@@ -85,8 +85,8 @@ runs_short job lines report status left now out err taken more found can r takes
 pub gets_more : (a b c : Option (List ℕ)) (xs ys zs : List ℕ) → Gets a b xs → Gets b c ys → zs ≡ xs ++ ys → Gets a c zs
 gets_more a b c xs ys zs p q is = subst (Gets a c) (sym is) (gets_both a b c xs ys p q)
 
-pub front_more : (a b c : Option (List ℕ)) (xs ys zs : List ℕ) → Gets a b xs → Front ys (Gets b c) → zs ≡ xs ++ ys → Front zs (Gets a c)
-front_more a b c xs ys zs p q is =
+pub part_more : (a b c : Option (List ℕ)) (xs ys zs : List ℕ) → Gets a b xs → WritesPart ys (Gets b c) → zs ≡ xs ++ ys → WritesPart zs (Gets a c)
+part_more a b c xs ys zs p q is =
     (xs ++ q.0, (q.1.0, is ∙ ap (λ w. xs ++ w) q.1.1 ∙ sym (append_assoc xs q.0 q.1.0)), gets_both a b c xs q.0 p q.2)
 
 -- What an emptied report has, once it has grown.
@@ -129,17 +129,17 @@ pub runs_memory : (job : Job) (lines : Cutter) (report : Report) (left later now
 runs_memory job lines report left later now out err piece can f takes most =
     let all = takes_both left later now f.taken piece f.takes takes in
     let fits : length (f.taken ++ piece) ≤ most_run_bytes = omega (arith, f.read.holds.stands.fed, length-append f.taken piece, most) in
-    runs_short job lines report 6 left now out err f.taken piece f.found can f.read all fits (front_all (out_text job f.found) out f.out) (front_all (err_text 1 f.found) err f.err) (inr refl)
+    runs_short job lines report 6 left now out err f.taken piece f.found can f.read all fits (part_all (out_text job f.found) out f.out) (part_all (err_text 1 f.found) err f.err) (inr refl)
 
 -- A sink failed with what was found of the next bytes.
-pub runs_sink : (job : Job) (before after : Cutter) (old mid : Report) (left later now : Option (List ℕ)) (og o1 o2 eg e1 e2 : Option (List ℕ)) (piece : List ℕ) → CanWork job → (f : Follows job before old left later (Gets og o1) (Gets eg e1)) → Grows job false after old mid (f.taken ++ piece) f.found → Takes later now piece → bytes_fed before + length piece ≤ most_run_bytes → Front mid.out (Gets o1 o2) → Front mid.err (Gets e1 e2) → Runs (Lines job) 5 left now (Gets og o2) (Gets eg e2)
+pub runs_sink : (job : Job) (before after : Cutter) (old mid : Report) (left later now : Option (List ℕ)) (og o1 o2 eg e1 e2 : Option (List ℕ)) (piece : List ℕ) → CanWork job → (f : Follows job before old left later (Gets og o1) (Gets eg e1)) → Grows job false after old mid (f.taken ++ piece) f.found → Takes later now piece → bytes_fed before + length piece ≤ most_run_bytes → WritesPart mid.out (Gets o1 o2) → WritesPart mid.err (Gets e1 e2) → Runs (Lines job) 5 left now (Gets og o2) (Gets eg e2)
 runs_sink job before after old mid left later now og o1 o2 eg e1 e2 piece can f g takes most p q =
     let all = takes_both left later now f.taken piece f.takes takes in
     let same : (f.taken ++ piece) ++ [] ≡ f.taken ++ piece = append-nil (f.taken ++ piece) in
     let fits : length ((f.taken ++ piece) ++ []) ≤ most_run_bytes = omega (arith, f.read.holds.stands.fed, length-append f.taken piece, ap length same, most) in
     runs_short job after mid 5 left now (Gets og o2) (Gets eg e2) (f.taken ++ piece) [] (f.found ++ g.more) can g.read (subst (Takes left now) (sym same) all) fits
-    (front_more og o1 o2 (out_text job f.found) mid.out (out_text job (f.found ++ g.more)) f.out p (report_out job old mid f.found g.more f.no_out g.reports))
-    (front_more eg e1 e2 (err_text 1 f.found) mid.err (err_text 1 (f.found ++ g.more)) f.err q (report_err job old mid f.found g.more f.no_err g.reports))
+    (part_more og o1 o2 (out_text job f.found) mid.out (out_text job (f.found ++ g.more)) f.out p (report_out job old mid f.found g.more f.no_out g.reports))
+    (part_more eg e1 e2 (err_text 1 f.found) mid.err (err_text 1 (f.found ++ g.more)) f.err q (report_err job old mid f.found g.more f.no_err g.reports))
     (inl refl)
 
 -- At the end of the source nothing follows what was taken.
@@ -192,12 +192,12 @@ runs_end job before after old mid status left later og o1 o2 eg e1 e2 f g room e
     }
 
 -- A sink failed with what was found of the last line.
-pub runs_last_sink : (job : Job) (before after : Cutter) (old mid : Report) (left later : Option (List ℕ)) (og o1 o2 eg e1 e2 : Option (List ℕ)) → CanWork job → (f : Follows job before old left later (Gets og o1) (Gets eg e1)) → Grows job true after old mid f.taken f.found → IsAtEnd later → Front mid.out (Gets o1 o2) → Front mid.err (Gets e1 e2) → Runs (Lines job) 5 left later (Gets og o2) (Gets eg e2)
+pub runs_last_sink : (job : Job) (before after : Cutter) (old mid : Report) (left later : Option (List ℕ)) (og o1 o2 eg e1 e2 : Option (List ℕ)) → CanWork job → (f : Follows job before old left later (Gets og o1) (Gets eg e1)) → Grows job true after old mid f.taken f.found → IsAtEnd later → WritesPart mid.out (Gets o1 o2) → WritesPart mid.err (Gets e1 e2) → Runs (Lines job) 5 left later (Gets og o2) (Gets eg e2)
 runs_last_sink job before after old mid left later og o1 o2 eg e1 e2 can f g end p q =
     let all = f.found ++ g.more in
     let lines = lines_of (has_notes job) f.taken in
-    let out : Front (out_text job all) (Gets og o2) = front_more og o1 o2 (out_text job f.found) mid.out (out_text job all) f.out p (report_out job old mid f.found g.more f.no_out g.reports) in
-    let err : Front (err_text 1 all) (Gets eg e2) = front_more eg e1 e2 (err_text 1 f.found) mid.err (err_text 1 all) f.err q (report_err job old mid f.found g.more f.no_err g.reports) in
+    let out : WritesPart (out_text job all) (Gets og o2) = part_more og o1 o2 (out_text job f.found) mid.out (out_text job all) f.out p (report_out job old mid f.found g.more f.no_out g.reports) in
+    let err : WritesPart (err_text 1 all) (Gets eg e2) = part_more eg e1 e2 (err_text 1 f.found) mid.err (err_text 1 all) f.err q (report_err job old mid f.found g.more f.no_err g.reports) in
     record {
       settled = settled_never (Lines job) 5 left later (Gets og o2) (Gets eg e2) (λ final. omega (arith, final));
       reads = λ broken. absurd (omega (arith, broken));
@@ -206,7 +206,7 @@ runs_last_sink job before after old mid left later og o1 o2 eg e1 e2 can f g end
             let same : input ≡ f.taken = input_is left later f.taken input told f.takes end in
             let verdicts : AreVerdicts job (lines ++ []) has.0 = subst (λ (ls : List (List ℕ)). AreVerdicts job ls has.0) (ap (lines_of (has_notes job)) same ∙ sym (append-nil lines)) has.1 in
             let rest = verdicts_front job lines [] all has.0 can g.read.verdicts verdicts in
-            fronts_found job all rest.0 o (Gets og o2) (Gets eg e2) (has.2 ∙ ap (outcome_of job) rest.1) out err
+            parts_found job all rest.0 o (Gets og o2) (Gets eg e2) (has.2 ∙ ap (outcome_of job) rest.1) out err
         | inr none ↦ absurd (none tt)
       ];
       limit = record { taken = f.taken; takes = f.takes; most = f.most; full = λ _. inl refl; endless = λ e. absurd (omega (arith, e)); whole_lines = λ broken. absurd (omega (arith, broken)) };
@@ -271,8 +271,8 @@ at_end_later None (Some ys) end none = absurd none
 at_end_later (Some xs) None end none = absurd none
 at_end_later (Some xs) (Some ys) end none = sym none ∙ end
 
-pub front_none : (text : List ℕ) (o : Option (List ℕ)) → Front text (Gets o o)
-front_none text o = ([], (text, refl), gets_none o)
+pub part_none : (text : List ℕ) (o : Option (List ℕ)) → WritesPart text (Gets o o)
+part_none text o = ([], (text, refl), gets_none o)
 
 -- Nothing was taken.
 limit_none : (c : Command) (status : ℕ) (left : Option (List ℕ)) (out err : List ℕ → Type 0) → (IsCut status → ⊥) → KeepsLimit c status left left out err
@@ -290,7 +290,7 @@ pub runs_nothing : (c : Command) (left o e : Option (List ℕ)) → Runs c 6 lef
 runs_nothing c left o e = record {
   settled = settled_never c 6 left left (Gets o o) (Gets e e) (λ final. omega (arith, final));
   reads = λ broken. absurd (omega (arith, broken));
-  fronts = λ _ input reads outcome has. (front_none outcome.out o, front_none outcome.err e);
+  fronts = λ _ input reads outcome has. (part_none outcome.out o, part_none outcome.err e);
   limit = limit_none c 6 left (Gets o o) (Gets e e) (λ broken. omega (arith, broken));
 }
 
@@ -317,7 +317,7 @@ runs_said_out c o status left e out told none says known =
         at_end = λ final takes. absurd (told.takes_none takes);
       };
       reads = λ broken. absurd (omega (arith, broken, known, good));
-      fronts = λ _ input reads outcome has. (subst (λ (w : Outcome). Front w.out out) (sym (told.only input outcome has)) says.part, front_none outcome.err e);
+      fronts = λ _ input reads outcome has. (subst (λ (w : Outcome). WritesPart w.out out) (sym (told.only input outcome has)) says.part, part_none outcome.err e);
       limit = limit_none c status left out (Gets e e) (λ broken. omega (arith, broken, known, good));
     }
 
@@ -337,19 +337,19 @@ runs_said_err c o status left f err told none says known =
         at_end = λ final takes. absurd (told.takes_none takes);
       };
       reads = λ broken. absurd (omega (arith, broken, known, good));
-      fronts = λ _ input reads outcome has. (front_none outcome.out f, subst (λ (w : Outcome). Front w.err err) (sym (told.only input outcome has)) says.part);
+      fronts = λ _ input reads outcome has. (part_none outcome.out f, subst (λ (w : Outcome). WritesPart w.err err) (sym (told.only input outcome has)) says.part);
       limit = limit_none c status left (Gets f f) err (λ broken. omega (arith, broken, known, good));
     }
 
-front_nothing : (text : List ℕ) (appended : List ℕ → Type 0) → appended [] → Front text appended
-front_nothing text appended none = ([], (text, refl), none)
+part_nothing : (text : List ℕ) (appended : List ℕ → Type 0) → appended [] → WritesPart text appended
+part_nothing text appended none = ([], (text, refl), none)
 
 -- There was no memory for a text, and nothing was written.
 runs_untold : (c : Command) (left : Option (List ℕ)) (out err : List ℕ → Type 0) → out [] → err [] → Runs c 6 left left out err
 runs_untold c left out err no_out no_err = record {
   settled = settled_never c 6 left left out err (λ final. omega (arith, final));
   reads = λ broken. absurd (omega (arith, broken));
-  fronts = λ _ input reads outcome has. (front_nothing outcome.out out no_out, front_nothing outcome.err err no_err);
+  fronts = λ _ input reads outcome has. (part_nothing outcome.out out no_out, part_nothing outcome.err err no_err);
   limit = limit_none c 6 left out err (λ broken. omega (arith, broken));
 }
 
@@ -375,6 +375,7 @@ told_shown format = record { has = λ input. refl; only = λ input other h. h; t
 pub good_status : (refusal : Refusal) → (refusal_status refusal ≤ 3) ⊎ (refusal_status refusal ≡ 7)
 good_status refusals.BadWords = inl (omega arith)
 good_status (refusals.BadFormat place cause) = inl (omega arith)
+good_status (refusals.BadNarrowing fault) = inl (omega arith)
 good_status refusals.NotBuilt = inl (omega arith)
 good_status (refusals.TooLarge size) = inr refl
 good_status (refusals.NoteLine rec) = inl (omega arith)

@@ -20,7 +20,7 @@ behind_front [] [] x e = absurd (cc)
 behind_front [] (y ∷ ys) x e = (ys, cc)
 behind_front (f ∷ fs) rest x e = behind_front fs rest x e
 
--- The element behind a front of a list is the first of the rest.
+-- The element behind a prefix of a list is the first of the rest.
 at_front : {X : Type 0} (front rest : List X) (n : ℕ) (x : X) → length front ≡ n → slice_get (front ++ rest) n ≡ Some x → (later : List X) × (rest ≡ x ∷ later)
 at_front front rest n x here e = behind_front front rest x (subst (λ (k : ℕ). slice_get (front ++ rest) k ≡ Some x) (sym here) e)
 

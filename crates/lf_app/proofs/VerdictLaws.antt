@@ -9,7 +9,7 @@ use Rattle.lf_app.specs.declared.commands.Job.{Job}
 use Rattle.lf_app.specs.declared.verdict.Verdict.{Verdict}
 use Rattle.lf_app.specs.declared.verdict.Verdict.TheVariants.{Note, Long, Found}
 use Rattle.lf_app.specs.declared.verdict.Finding.{Finding}
-use Rattle.lf_app.specs.declared.verdict.Finding.TheVariants.{Read, Unread, Written, Bad}
+use Rattle.lf_app.specs.declared.verdict.Finding.TheVariants.{Read, Unread, Given, Bad}
 use Rattle.lf_app.specs.declared.commands.Job.TheVariants as jobs
 use Rattle.std.specs.Prelude.{Ok, Err}
 use Rattle.lf_json.proofs.OneReading.{one_reading}
@@ -34,13 +34,13 @@ one_finding (jobs.Read format) line (Read r) (Read s) can p q = ap Read (same_re
 one_finding (jobs.Read format) line (Read r) Unread can p q = absurd (q r p)
 one_finding (jobs.Read format) line Unread (Read s) can p q = absurd (p s q)
 one_finding (jobs.Read format) line Unread Unread can p q = refl
-one_finding (jobs.Read format) line (Written r) g can p q = absurd p
+one_finding (jobs.Read format) line (Given r) g can p q = absurd p
 one_finding (jobs.Read format) line (Bad bad) g can p q = absurd p
-one_finding (jobs.Read format) line f (Written s) can p q = absurd q
+one_finding (jobs.Read format) line f (Given s) can p q = absurd q
 one_finding (jobs.Read format) line f (Bad bad) can p q = absurd q
-one_finding (jobs.Write format) line (Written r) (Written s) can p q = let same = one_reading format.pieces line (Ok r) (Ok s) p q in cc
-one_finding (jobs.Write format) line (Written r) (Bad bad) can p q = let same = one_reading format.pieces line (Ok r) (Err bad) p q in cc
-one_finding (jobs.Write format) line (Bad bad) (Written s) can p q = let same = one_reading format.pieces line (Err bad) (Ok s) p q in cc
+one_finding (jobs.Write format) line (Given r) (Given s) can p q = let same = one_reading format.pieces line (Ok r) (Ok s) p q in cc
+one_finding (jobs.Write format) line (Given r) (Bad bad) can p q = let same = one_reading format.pieces line (Ok r) (Err bad) p q in cc
+one_finding (jobs.Write format) line (Bad bad) (Given s) can p q = let same = one_reading format.pieces line (Err bad) (Ok s) p q in cc
 one_finding (jobs.Write format) line (Bad bad) (Bad other) can p q = let same = one_reading format.pieces line (Err bad) (Err other) p q in cc
 one_finding (jobs.Write format) line (Read r) g can p q = absurd p
 one_finding (jobs.Write format) line Unread g can p q = absurd p
@@ -71,7 +71,7 @@ verdicts_append job [] ms (v ∷ vs) ws p q = absurd p
 verdicts_append job (l ∷ ls) ms [] ws p q = absurd p
 verdicts_append job (l ∷ ls) ms (v ∷ vs) ws p q = (p.0, verdicts_append job ls ms vs ws p.1 q)
 
--- The verdicts of cut_lines are the front of those of more lines.
+-- The verdicts of cut_lines are the first of those of more lines.
 pub verdicts_front : (job : Job) (ls ms : List (List ℕ)) (vs ws : List Verdict) → CanWork job → AreVerdicts job ls vs → AreVerdicts job (ls ++ ms) ws → (more : List Verdict) × (ws ≡ vs ++ more)
 verdicts_front job [] ms [] ws one p q = (ws, refl)
 verdicts_front job [] ms (v ∷ vs) ws one p q = absurd p

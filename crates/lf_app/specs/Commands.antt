@@ -1,13 +1,11 @@
 -- What a command line asks for.
-use Rattle.std.specs.Prelude.{◌≡◌, ℕ, ◌⊎◌, ◌&&◌, Bool, true, false, cond, List, Option, None, Some, length}
+use Rattle.std.specs.Prelude.{◌≡◌, ℕ, ◌⊎◌, Bool, true, false, cond, List, length}
 use Rattle.lf_compile.specs.Accepted.{IsAccepted, IsCauseOf}
 use Rattle.lf_compile.specs.declared.refused.Confusion.{Confusion}
 use Rattle.lf_compile.specs.declared.refused.Refused.{Refused}
 use Rattle.lf_compile.specs.declared.refused.Refused.TheVariants.{TooLarge, Hash, Ambiguous, OutOfMemory}
 use Rattle.lf_format.specs.Keeps.{slots_in}
-use Rattle.lf_fronts.specs.Fronts.{Spells, IsFaulty}
 use Rattle.lf_format.specs.Shape.{Shape}
-use Rattle.lf_spelling.specs.declared.fault.Cause.{Cause}
 use Rattle.lf_words.specs.Command.{IsCommand as IsLine, IsBad}
 use Rattle.lf_words.specs.declared.command.Command.{Command as CommandLine}
 use Rattle.lf_words.specs.declared.command.Side.{Side}
@@ -16,25 +14,18 @@ use Rattle.lf_words.specs.declared.command.Verb.TheVariants as verbs
 use Rattle.lf_app.specs.declared.commands.Command.{Command}
 use Rattle.lf_app.specs.declared.commands.Command.TheVariants.{Lines, Readable, Witness, Show, Refuse}
 use Rattle.lf_app.specs.declared.commands.Job.TheVariants.{Read, Write}
+use Rattle.lf_app.specs.declared.commands.Refusal.{Refusal}
 use Rattle.lf_app.specs.declared.commands.Refusal.TheVariants as refusals
+use Rattle.lf_app.specs.Sides.{Gives, IsFaultySide}
 
 -- whether the verb is one that is built
-abbrev pub is_built_verb : Verb → Bool
-is_built_verb verbs.Check = true
-is_built_verb verbs.Read = true
-is_built_verb verbs.Write = true
-is_built_verb verbs.Show = true
-is_built_verb verbs.Translate = false
-is_built_verb verbs.Gen = false
-
--- whether no narrowing is given
-abbrev pub is_wide : Option (List ℕ) → Bool
-is_wide None = true
-is_wide (Some text) = false
-
--- whether the command line's verb and options are built
-abbrev pub is_built : CommandLine → Bool
-is_built line = is_built_verb line.verb && is_wide line.source.narrow
+abbrev pub is_built : Verb → Bool
+is_built verbs.Check = true
+is_built verbs.Read = true
+is_built verbs.Write = true
+is_built verbs.Show = true
+is_built verbs.Translate = false
+is_built verbs.Gen = false
 
 -- whether the verb asks first whether the format is readable
 abbrev pub is_compiling : Verb → Bool
@@ -79,17 +70,17 @@ IsRefusedFor verb (Hash rec) command = command ≡ Refuse (refusals.NoteLine rec
 IsRefusedFor verb (Ambiguous confusion) command = command ≡ confused_command verb confusion
 IsRefusedFor verb OutOfMemory command = ⊥
 
--- A verb that is built asks for this by a format as it was spelled: the spelling is faulty; or the verb asks for no more than
--- the format; or it asks first whether the format is accepted, and it is, or is refused.
+-- A verb that is built asks for this of a side: the side is refused; or the verb asks for no more than the format that the
+-- side gives; or it asks first whether the format is accepted, and it is, or is refused.
 pub data IsAsked (verb : Verb) (source : Side) (command : Command) : Type 0 where
-  faulty : (place : ℕ) (cause : Cause) → IsFaulty source.front source.format place cause → command ≡ Refuse (refusals.BadFormat place cause) → IsAsked verb source command
-  plain : (format : Shape) → Spells source.front source.format format → is_compiling verb ≡ false → command ≡ plain_command verb format → IsAsked verb source command
-  accepted : (format : Shape) → Spells source.front source.format format → is_compiling verb ≡ true → IsAccepted format → command ≡ accepted_command verb format → IsAsked verb source command
-  refused : (format : Shape) (cause : Refused) → Spells source.front source.format format → is_compiling verb ≡ true → IsCauseOf format cause → IsRefusedFor verb cause command → IsAsked verb source command
+  faulty : (refusal : Refusal) → IsFaultySide source refusal → command ≡ Refuse refusal → IsAsked verb source command
+  plain : (format : Shape) → Gives source format → is_compiling verb ≡ false → command ≡ plain_command verb format → IsAsked verb source command
+  accepted : (format : Shape) → Gives source format → is_compiling verb ≡ true → IsAccepted format → command ≡ accepted_command verb format → IsAsked verb source command
+  refused : (format : Shape) (cause : Refused) → Gives source format → is_compiling verb ≡ true → IsCauseOf format cause → IsRefusedFor verb cause command → IsAsked verb source command
 
 -- A command line asks for this: what its verb asks for where it is built.
 abbrev pub AsksFor : CommandLine → Command → Type 0
-AsksFor line command = cond (is_built line) (IsAsked line.verb line.source command) (command ≡ Refuse refusals.NotBuilt)
+AsksFor line command = cond (is_built line.verb) (IsAsked line.verb line.source command) (command ≡ Refuse refusals.NotBuilt)
 
 -- The words are a command line, and it asks for this.
 pub record IsLineFor (words : List (List ℕ)) (command : Command) : Type 0 where

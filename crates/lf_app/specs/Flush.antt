@@ -13,13 +13,13 @@ use Rattle.lf_limits.specs.Limits.{most_run_bytes}
 use Rattle.lf_app.specs.Verdicts.{out_text, err_text, any_listed}
 use Rattle.lf_app.specs.Progress.{HasRead}
 use Rattle.lf_app.specs.declared.commands.Command.TheVariants.{Lines}
-use Rattle.lf_app.specs.Run.{Front}
+use Rattle.lf_app.specs.Run.{WritesPart}
 use Rattle.lf_app.specs.Promise.{Runs}
 
--- Both texts were appended and the report is empty, or fronts of them were appended.
+-- Both texts were appended and the report is empty, or prefixes of them were appended.
 abbrev pub Flushes : Report → Report → (List ℕ → Type 0) → (List ℕ → Type 0) → Put → Type 0
 Flushes old new out err put.Done = out old.out × err old.err × (new ≡ record old { out = []; err = [] })
-Flushes old new out err put.Failed = Front old.out out × Front old.err err
+Flushes old new out err put.Failed = WritesPart old.out out × WritesPart old.err err
 
 -- Two sinks' counts never fall, one rose where a failure is answered, and both stay where none is.
 pub record HasCauses (out_before out_now err_before err_now : ℕ) (failed : Type 0) : Type 0 where

@@ -5,6 +5,8 @@ use Rattle.lf_limits.specs.Limits.{most_size}
 use Rattle.lf_format.specs.Keeps.{slots_in}
 use Rattle.lf_format.specs.Kinds.{value_kind}
 use Rattle.lf_format.specs.Shape.{Shape}
+use Rattle.lf_narrow.specs.declared.fault.NarrowFault.{NarrowFault}
+use Rattle.lf_narrow.specs.declared.fault.NarrowFault.TheVariants as fault
 use Rattle.lf_spelling.specs.declared.fault.Cause.{Cause}
 use Rattle.lf_spelling.specs.declared.fault.Cause.TheVariants as cause
 use Rattle.lf_format.specs.declared.kind.ValueKind.{ValueKind}
@@ -12,11 +14,12 @@ use Rattle.lf_format.specs.declared.kind.ValueKind.TheVariants as sort
 use Rattle.lf_format.specs.declared.slot.Absent.{Absent}
 use Rattle.lf_format.specs.declared.slot.Absent.TheVariants as absent
 use Rattle.lf_format.specs.declared.slot.Slot.{Slot}
+use Rattle.lf_app.specs.Statuses as statuses
 use Rattle.lf_app.specs.declared.commands.Command.{Command}
 use Rattle.lf_app.specs.declared.commands.Command.TheVariants.{Lines, Readable, Witness, Show, Refuse}
 use Rattle.lf_app.specs.declared.commands.Job.{Job}
 use Rattle.lf_app.specs.declared.commands.Refusal.{Refusal}
-use Rattle.lf_app.specs.declared.commands.Refusal.TheVariants.{BadWords, BadFormat, NotBuilt, TooLarge, NoteLine, Confused}
+use Rattle.lf_app.specs.declared.commands.Refusal.TheVariants.{BadWords, BadFormat, BadNarrowing, NotBuilt, TooLarge, NoteLine, Confused}
 use Rattle.lf_compile.specs.declared.refused.Confusion.{Confusion}
 use Rattle.lf_json.specs.Text.{json_text, text_json}
 use Rattle.lf_stream.specs.Cut.{lines_of}
@@ -40,6 +43,14 @@ cause_text cause.LineBreak = codes "LineBreak"
 cause_text cause.EmptyFormat = codes "EmptyFormat"
 cause_text cause.TooManySlots = codes "TooManySlots"
 
+-- what is said of a narrowing's fault
+abbrev pub fault_text : NarrowFault → List ℕ
+fault_text (fault.Syntax place) = codes "Syntax at " ++ decimal place
+fault_text (fault.NoSlot k) = codes "NoSlot s" ++ decimal k
+fault_text (fault.WrongKind k) = codes "WrongKind s" ++ decimal k
+fault_text (fault.Empty k) = codes "Empty s" ++ decimal k
+fault_text fault.OutOfMemory = []
+
 -- the lines that show two records of one line, without the last line feed
 abbrev pub witness_text : Confusion → List ℕ
 witness_text c =
@@ -49,6 +60,7 @@ witness_text c =
 abbrev pub refusal_text : Refusal → List ℕ
 refusal_text BadWords = codes "logfmt: bad command line"
 refusal_text (BadFormat place why) = codes "logfmt: source format: " ++ cause_text why ++ codes " at " ++ decimal place
+refusal_text (BadNarrowing why) = codes "logfmt: source narrowing: " ++ fault_text why
 refusal_text NotBuilt = codes "logfmt: not built"
 refusal_text (TooLarge size) = codes "logfmt: size " ++ decimal size ++ codes " over " ++ decimal most_size
 refusal_text (NoteLine rec) = codes "logfmt: note line: " ++ json_text rec
@@ -56,12 +68,13 @@ refusal_text (Confused confusion) = witness_text confusion
 
 -- the status of a refusal
 abbrev pub refusal_status : Refusal → ℕ
-refusal_status (TooLarge size) = 7
-refusal_status (Confused confusion) = 1
-refusal_status BadWords = 2
-refusal_status (BadFormat place why) = 2
-refusal_status NotBuilt = 2
-refusal_status (NoteLine rec) = 2
+refusal_status (TooLarge size) = statuses.too_large
+refusal_status (Confused confusion) = statuses.ambiguous
+refusal_status BadWords = statuses.usage
+refusal_status (BadFormat place why) = statuses.usage
+refusal_status (BadNarrowing why) = statuses.usage
+refusal_status NotBuilt = statuses.usage
+refusal_status (NoteLine rec) = statuses.usage
 
 -- an outcome that only writes a line on `err`
 abbrev pub told_err : ℕ → List ℕ → Outcome
@@ -97,17 +110,17 @@ slot_lines k (slot ∷ slots) = slot_line k slot ++ slot_lines (k + 1) slots
 
 -- what is shown of a format
 abbrev pub shown : Shape → Outcome
-shown format = record { status = 0; out = slot_lines 1 (slots_in format.pieces); err = [] }
+shown format = record { status = statuses.done; out = slot_lines 1 (slots_in format.pieces); err = [] }
 
 -- the outcome of lines of these verdicts
 abbrev pub outcome_of : Job → List Verdict → Outcome
-outcome_of job verdicts = record { status = cond (any_listed verdicts) 3 0; out = out_text job verdicts; err = err_text 1 verdicts }
+outcome_of job verdicts = record { status = cond (any_listed verdicts) statuses.partial statuses.done; out = out_text job verdicts; err = err_text 1 verdicts }
 
 -- The command on this input has this outcome.
 abbrev pub HasOutcome : Command → List ℕ → Outcome → Type 0
 HasOutcome (Lines job) input o = (verdicts : List Verdict) × AreVerdicts job (lines_of (has_notes job) input) verdicts × (o ≡ outcome_of job verdicts)
-HasOutcome (Readable slots) input o = o ≡ told_out 0 (codes "readable " ++ decimal slots)
-HasOutcome (Witness confusion) input o = o ≡ told_out 1 (witness_text confusion)
+HasOutcome (Readable slots) input o = o ≡ told_out statuses.done (codes "readable " ++ decimal slots)
+HasOutcome (Witness confusion) input o = o ≡ told_out statuses.ambiguous (witness_text confusion)
 HasOutcome (Show format) input o = o ≡ shown format
 HasOutcome (Refuse refusal) input o = o ≡ told_err (refusal_status refusal) (refusal_text refusal)
 

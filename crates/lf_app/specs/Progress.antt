@@ -83,6 +83,7 @@ pub record HasRecords (confusion : Confusion) : Type 0 where
 abbrev pub CanTell : Refusal → Type 0
 CanTell refusals.BadWords = Unit {0}
 CanTell (refusals.BadFormat place cause) = Unit {0}
+CanTell (refusals.BadNarrowing fault) = Unit {0}
 CanTell refusals.NotBuilt = Unit {0}
 CanTell (refusals.TooLarge size) = Unit {0}
 CanTell (refusals.NoteLine rec) = All HasJson rec

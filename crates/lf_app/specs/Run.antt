@@ -6,13 +6,14 @@ use Rattle.lf_io.specs.Moves.{Takes, IsAtEnd}
 use Rattle.lf_io.specs.Faults.{Rose}
 use Rattle.lf_stream.specs.Cut.{whole_part}
 use Rattle.lf_limits.specs.Limits.{most_run_bytes}
+use Rattle.lf_app.specs.Statuses as statuses
 use Rattle.lf_app.specs.declared.commands.Command.{Command}
 use Rattle.lf_app.specs.Commands.{TakesInput}
 use Rattle.lf_app.specs.Outcome.{Outcome, HasOutcome}
 
 -- Done, Ambiguous, Usage, Partial and TooLarge: the run came to its end.
 abbrev pub IsFinal : ℕ → Type 0
-IsFinal status = (status ≤ 3) ⊎ (status ≡ 7)
+IsFinal status = (status ≤ statuses.partial) ⊎ (status ≡ statuses.too_large)
 
 -- The source tells that its bytes are these, or the command takes none of them.
 abbrev pub Reads : Command → Option (List ℕ) → List ℕ → Type 0
@@ -33,7 +34,7 @@ pub record IsSettled (command : Command) (status : ℕ) (left later : Option (Li
 
 -- SourceFault and Endless: the stream of input was cut.
 abbrev pub IsCut : ℕ → Type 0
-IsCut status = (status ≡ 4) ⊎ (status ≡ 8)
+IsCut status = (status ≡ statuses.source_fault) ⊎ (status ≡ statuses.endless)
 
 -- Both texts are those of the outcome on the whole lines among the bytes taken.
 pub record WritesWholeLines (command : Command) (taken : List ℕ) (out err : List ℕ → Type 0) : Type 0 where
@@ -46,34 +47,34 @@ pub record WritesWholeLines (command : Command) (taken : List ℕ) (out err : Li
 -- `most_run_bytes`-th byte; its whole lines are written. At every other status the source had no fault.
 pub record IsCutStream (command : Command) (status : ℕ) (left later : Option (List ℕ)) (faults_before faults_now : ℕ) (out err : List ℕ → Type 0) : Type 0 where
   pub reads : IsCut status → TakesInput command
-  pub fault : status ≡ 4 → Rose faults_before faults_now
-  pub no_fault : (status ≡ 4 → ⊥) → faults_now ≡ faults_before
+  pub fault : status ≡ statuses.source_fault → Rose faults_before faults_now
+  pub no_fault : (status ≡ statuses.source_fault → ⊥) → faults_now ≡ faults_before
   pub taken : List ℕ
   pub takes : Takes left later taken
   pub most : length taken ≤ most_run_bytes
-  pub full : length taken ≡ most_run_bytes → (status ≡ 5) ⊎ (status ≡ 6) ⊎ (status ≡ 8)
-  pub endless : status ≡ 8 → length taken ≡ most_run_bytes
+  pub full : length taken ≡ most_run_bytes → (status ≡ statuses.sink_fault) ⊎ (status ≡ statuses.no_memory) ⊎ (status ≡ statuses.endless)
+  pub endless : status ≡ statuses.endless → length taken ≡ most_run_bytes
   pub whole_lines : IsCut status → WritesWholeLines command taken out err
 
--- A front of the text was appended.
-abbrev pub Front : List ℕ → (List ℕ → Type 0) → Type 0
-Front text appended = (part : List ℕ) × BeginsWith text part × appended part
+-- A prefix of the text was appended.
+abbrev pub WritesPart : List ℕ → (List ℕ → Type 0) → Type 0
+WritesPart text appended = (part : List ℕ) × BeginsWith text part × appended part
 
--- Of each outcome's texts, fronts were appended.
-abbrev pub WritesFronts : Command → Option (List ℕ) → (List ℕ → Type 0) → (List ℕ → Type 0) → Type 0
-WritesFronts command left out err =
-    (input : List ℕ) → Reads command left input → (o : Outcome) → HasOutcome command input o → Front o.out out × Front o.err err
+-- Of each outcome's texts, prefixes were appended.
+abbrev pub WritesParts : Command → Option (List ℕ) → (List ℕ → Type 0) → (List ℕ → Type 0) → Type 0
+WritesParts command left out err =
+    (input : List ℕ) → Reads command left input → (o : Outcome) → HasOutcome command input o → WritesPart o.out out × WritesPart o.err err
 
--- `sink_fault`: SinkFault comes only where the faults of a sink rose, and fronts of the texts are written. At
+-- `sink_fault`: SinkFault comes only where the faults of a sink rose, and prefixes of the texts are written. At
 -- every other status no sink had a fault.
 pub record IsSinkFault (command : Command) (status : ℕ) (left : Option (List ℕ)) (out_before out_now err_before err_now : ℕ) (out err : List ℕ → Type 0) : Type 0 where
-  pub cause : status ≡ 5 → Rose out_before out_now ⊎ Rose err_before err_now
-  pub no_fault : (status ≡ 5 → ⊥) → (out_now ≡ out_before) × (err_now ≡ err_before)
-  pub fronts : status ≡ 5 → WritesFronts command left out err
+  pub cause : status ≡ statuses.sink_fault → Rose out_before out_now ⊎ Rose err_before err_now
+  pub no_fault : (status ≡ statuses.sink_fault → ⊥) → (out_now ≡ out_before) × (err_now ≡ err_before)
+  pub fronts : status ≡ statuses.sink_fault → WritesParts command left out err
 
--- `no_memory`: at NoMemory fronts of the texts are written.
+-- `no_memory`: at NoMemory prefixes of the texts are written.
 abbrev pub IsNoMemory : Command → ℕ → Option (List ℕ) → (List ℕ → Type 0) → (List ℕ → Type 0) → Type 0
-IsNoMemory command status left out err = status ≡ 6 → WritesFronts command left out err
+IsNoMemory command status left out err = status ≡ statuses.no_memory → WritesParts command left out err
 
 -- The status is that of the command's outcome on the input.
 pub record HasStatus (command : Command) (input : List ℕ) (status : ℕ) : Type 0 where
@@ -84,4 +85,4 @@ pub record HasStatus (command : Command) (input : List ℕ) (status : ℕ) : Typ
 -- `complete`: on an input of fewer than `most_run_bytes` bytes the status is the outcome's, or NoMemory.
 abbrev pub IsComplete : Command → ℕ → Option (List ℕ) → Type 0
 IsComplete command status left =
-    (input : List ℕ) → Reads command left input → length input < most_run_bytes → HasStatus command input status ⊎ (status ≡ 6)
+    (input : List ℕ) → Reads command left input → length input < most_run_bytes → HasStatus command input status ⊎ (status ≡ statuses.no_memory)

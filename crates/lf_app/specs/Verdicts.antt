@@ -15,7 +15,7 @@ use Rattle.lf_stream.specs.declared.marks.Sort.TheVariants as sort
 use Rattle.lf_app.specs.declared.commands.Job.{Job}
 use Rattle.lf_app.specs.declared.commands.Job.TheVariants as jobs
 use Rattle.lf_app.specs.declared.verdict.Finding.{Finding}
-use Rattle.lf_app.specs.declared.verdict.Finding.TheVariants.{Read, Unread, Written, Bad}
+use Rattle.lf_app.specs.declared.verdict.Finding.TheVariants.{Read, Unread, Given, Bad}
 use Rattle.lf_app.specs.declared.verdict.Verdict.{Verdict}
 use Rattle.lf_app.specs.declared.verdict.Verdict.TheVariants.{Note, Long, Found}
 
@@ -33,9 +33,9 @@ has_notes (jobs.Write format) = false
 abbrev pub IsFound : Job → List ℕ → Finding → Type 0
 IsFound (jobs.Read format) line (Read r) = Prints format.pieces r line
 IsFound (jobs.Read format) line Unread = PrintsNone format.pieces line
-IsFound (jobs.Write format) line (Written r) = ReadsJson format.pieces line (Ok r)
+IsFound (jobs.Write format) line (Given r) = ReadsJson format.pieces line (Ok r)
 IsFound (jobs.Write format) line (Bad bad) = ReadsJson format.pieces line (Err bad)
-IsFound (jobs.Read format) line (Written r) = ⊥
+IsFound (jobs.Read format) line (Given r) = ⊥
 IsFound (jobs.Read format) line (Bad bad) = ⊥
 IsFound (jobs.Write format) line (Read r) = ⊥
 IsFound (jobs.Write format) line Unread = ⊥
@@ -62,7 +62,7 @@ end_text CrLf = 13 ∷ 10 ∷ []
 abbrev pub finding_text : Shape → Finding → List ℕ
 finding_text format (Read r) = json_text r ++ 10 ∷ []
 finding_text format Unread = []
-finding_text format (Written r) = line_text format.pieces r ++ end_text format.end
+finding_text format (Given r) = line_text format.pieces r ++ end_text format.end
 finding_text format (Bad bad) = []
 
 -- what `out` gets of a line
@@ -86,7 +86,7 @@ bad_text OutOfMemory = []
 abbrev pub finding_err : ℕ → Finding → List ℕ
 finding_err n (Read r) = []
 finding_err n Unread = listed_line (codes "unread ") n []
-finding_err n (Written r) = []
+finding_err n (Given r) = []
 finding_err n (Bad bad) = listed_line (codes "bad ") n (bad_text bad)
 
 -- what `err` gets of the line of this number
@@ -110,7 +110,7 @@ is_listed Note = false
 is_listed Long = true
 is_listed (Found (Read r)) = false
 is_listed (Found Unread) = true
-is_listed (Found (Written r)) = false
+is_listed (Found (Given r)) = false
 is_listed (Found (Bad bad)) = true
 
 -- whether `err` lists some line
@@ -121,7 +121,7 @@ any_listed (v ∷ vs) = is_listed v || any_listed vs
 -- The records that were found are records of the format.
 abbrev pub IsOfFormat : Shape → Verdict → Type 0
 IsOfFormat format (Found (Read r)) = IsRecordOf format.pieces r
-IsOfFormat format (Found (Written r)) = IsRecordOf format.pieces r
+IsOfFormat format (Found (Given r)) = IsRecordOf format.pieces r
 IsOfFormat format (Found Unread) = Unit {0}
 IsOfFormat format (Found (Bad bad)) = Unit {0}
 IsOfFormat format Note = Unit {0}

@@ -1,22 +1,26 @@
-ghost use Rattle.std.specs.Prelude.{◌≡◌, ◌≤◌, IfOk, true, length};
-ghost use Rattle.lf_limits.specs.Limits.{most_text_bytes};
-ghost use Rattle.lf_fronts.specs.Fronts.{Spells};
-ghost use Rattle.lf_app.specs.Commands.{is_built_verb as is_verb_built, is_built as is_line_built, is_compiling, accepted_command, confused_command, IsRefusedFor, IsAsked, AsksFor, IsCommand};
+//! What a command line asks for, or why it is refused.
+
+ghost use Rattle.std.specs.Prelude.{◌≡◌, IfOk, true};
+ghost use Rattle.lf_app.specs.Sides.{Gives, IsShort};
+ghost use Rattle.lf_app.specs.Commands.{is_built as is_verb_built, is_compiling, accepted_command, confused_command, IsRefusedFor, IsAsked, AsksFor, IsCommand};
 ghost use Rattle.lf_app.specs.Verdicts.{format_of, has_notes};
 
+use crate::sides::{SideFault, read_side};
 use lf_compile::{CompileRefused, Confusion, Reader, Refused, compile};
 use lf_core::{OutOfMemory, Record, Str};
 use lf_format::Format;
-use lf_fronts::parse;
-use lf_spelling::{Cause, FormatFault};
-use lf_words::laws::format_is_a_word;
+use lf_narrow::NarrowFault;
+use lf_spelling::Cause;
+use lf_words::laws::{format_is_a_word, narrowing_is_a_word};
 use lf_words::{Command as CommandLine, Side, Verb, WordFault, read_words};
 use std::alloc::Global;
 
 /// What is done with the lines of a stream: they are read as a format's lines, or written from records in JSON.
 #[derive(Drop)]
 pub enum Job {
+    /// Lines are read, and their records written as JSON.
     Read(Reader),
+    /// Records in JSON are read, and their lines written.
     Write(Format),
 }
 
@@ -45,11 +49,19 @@ impl Job {
 /// Why a command line is refused.
 #[derive(Drop)]
 pub enum Refusal {
+    /// The words are no command line.
     BadWords,
+    /// The first fault of the format's text, with its place in bytes from 0.
     BadFormat(u32, Cause),
+    /// The first fault of the source's narrowing.
+    BadNarrowing(NarrowFault),
+    /// The verb is not built.
     NotBuilt,
+    /// The size of the format, which is over `MOST_SIZE`.
     TooLarge(u64),
+    /// The least record whose line would be a note.
     NoteLine(Record),
+    /// What shows that the format, which the verb reads lines by, is not readable.
     Confused(Confusion),
 }
 
@@ -64,20 +76,14 @@ pub enum Command {
     Refuse(Refusal),
 }
 
-fn is_built_verb(verb: Verb) -> bool
+/// Whether the verb is one that is built.
+fn is_built(verb: Verb) -> bool
     ensures { result ≡ is_verb_built verb }
 {
     match verb {
         Verb::Check | Verb::Read | Verb::Write | Verb::Show => true,
         Verb::Translate | Verb::Gen => false,
     }
-}
-
-/// Whether what the command line asks for is built.
-fn is_built(line: &CommandLine) -> bool
-    ensures { result ≡ is_line_built line.now }
-{
-    is_built_verb(line.verb) && line.source.narrow.is_none()
 }
 
 /// What is asked for by a format that is accepted.
@@ -125,7 +131,7 @@ fn ask_compiled(
     _source: &Side,
     format: Format,
 ) -> Result<Command, OutOfMemory>
-    requires spelled { Spells _source.now.front _source.now.format format }
+    requires given { Gives _source.now format }
     requires compiling { is_compiling verb ≡ true }
     ensures { IfOk result (IsAsked verb _source.now) }
 {
@@ -137,7 +143,7 @@ fn ask_compiled(
 
 /// What a verb asks for by this format.
 fn ask(alloc: Global, verb: Verb, _source: &Side, format: Format) -> Result<Command, OutOfMemory>
-    requires { Spells _source.now.front _source.now.format format }
+    requires { Gives _source.now format }
     ensures { IfOk result (IsAsked verb _source.now) }
 {
     match verb {
@@ -151,17 +157,16 @@ fn ask(alloc: Global, verb: Verb, _source: &Side, format: Format) -> Result<Comm
 
 /// What a command line asks for.
 fn read_line(alloc: Global, line: &CommandLine) -> Result<Command, OutOfMemory>
-    requires { is_line_built line.now ≡ true → length line.now.source.format ≤ most_text_bytes }
+    requires { IsShort line.now.source }
     ensures { IfOk result (AsksFor line.now) }
 {
-    if !is_built(line) {
+    if !is_built(line.verb) {
         return Ok(Command::Refuse(Refusal::NotBuilt));
     }
-    let source = &line.source;
-    match parse(alloc, source.front, source.format.as_str()) {
-        Ok(format) => ask(alloc, line.verb, source, format),
-        Err(FormatFault::At(place, cause)) => Ok(Command::Refuse(Refusal::BadFormat(place, cause))),
-        Err(FormatFault::OutOfMemory) => Err(OutOfMemory),
+    match read_side(alloc, &line.source) {
+        Ok(format) => ask(alloc, line.verb, &line.source, format),
+        Err(SideFault::Refused(refusal)) => Ok(Command::Refuse(refusal)),
+        Err(SideFault::OutOfMemory) => Err(OutOfMemory),
     }
 }
 
@@ -170,6 +175,7 @@ pub fn read_command(alloc: Global, words: &[Str]) -> Result<Command, OutOfMemory
     ensures { IfOk result (IsCommand words.now) }
 {
     format_is_a_word();
+    narrowing_is_a_word();
     match read_words(alloc, words) {
         Ok(line) => read_line(alloc, &line),
         Err(WordFault::Bad) => Ok(Command::Refuse(Refusal::BadWords)),

@@ -1,5 +1,8 @@
+//! Gates, which jobs pass before their first lines.
+
 /// What a job passes before its first line.
 pub trait Gate {
+    /// Comes back when the job of this number may go on.
     fn pass(&self, job: u32);
 }
 

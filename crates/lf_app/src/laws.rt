@@ -13,6 +13,8 @@ pub fn words_are_one_command()
     lf_words::laws::format_is_a_word();
     lf_fronts::one_answer();
     lf_fronts::spelled_keeps();
+    lf_narrow::one_answer();
+    lf_narrow::narrowed_keeps();
     lf_compile::laws::one_answer();
     lf_compile::laws::some_answer();
 }
@@ -23,6 +25,7 @@ pub fn command_has_one_outcome()
 {
     lf_words::laws::format_is_a_word();
     lf_fronts::spelled_keeps();
+    lf_narrow::narrowed_keeps();
     lf_compile::laws::lines_are_decided();
     lf_json::laws::lines_have_one_reading();
 }

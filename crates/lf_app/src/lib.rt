@@ -4,12 +4,14 @@
 mod commands;
 mod flush;
 mod gate;
+/// Laws over the definitions: words are one command, and a command has one outcome.
 pub mod laws;
 mod passes;
 mod reading;
 mod report;
 mod running;
 mod showing;
+mod sides;
 mod status;
 mod telling;
 mod verdict;

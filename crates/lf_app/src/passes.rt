@@ -1,9 +1,12 @@
+//! The way through a stream: a piece is pulled, its lines are reported, and the report is written.
+
 ghost use Rattle.std.specs.Prelude.{◌≡◌, ◌+◌, ◌<◌, ◌≤◌, ◌⊎◌, ℕ, List, Option, length, IfErr, IsErrAnd, OnOk};
 ghost use Rattle.lf_io.specs.Faults.{HasCause, Rose};
 ghost use Rattle.lf_io.specs.Moves.{Gets, Takes, IsAtEnd};
 ghost use Rattle.lf_io.specs.Steps.{Pulls};
 ghost use Rattle.lf_stream.specs.Standing.{bytes_fed};
 ghost use Rattle.lf_limits.specs.Limits.{least_room, most_run_bytes};
+ghost use Rattle.lf_app.specs.Statuses as statuses;
 ghost use Rattle.lf_app.specs.declared.commands.Command.TheVariants as command;
 ghost use Rattle.lf_app.specs.Progress.{CanWork, IsOpen};
 ghost use Rattle.lf_app.specs.Promise.{Runs, Tells};
@@ -37,15 +40,15 @@ fn pass_piece<O: Sink, E: Sink>(
         → Follows job.now lines.old report.old left later (Gets out_got (O.got out.old)) (Gets err_got (E.got err.old))
         → Takes later now piece.now
         → GoesOn result job.now lines.new report.new left now (Gets out_got (O.got out.new)) (Gets err_got (E.got err.new)) }
-    ensures faults { HasCauses (O.faults out.old) (O.faults out.new) (E.faults err.old) (E.faults err.new) (IsErrAnd result (λ s. s.0 ≡ 5)) }
-    ensures known { IfErr result (λ s. s.0 ≡ 5 ⊎ s.0 ≡ 6) }
+    ensures faults { HasCauses (O.faults out.old) (O.faults out.new) (E.faults err.old) (E.faults err.new) (IsErrAnd result (λ s. s.0 ≡ statuses.sink_fault)) }
+    ensures known { IfErr result (λ s. s.0 ≡ statuses.sink_fault ⊎ s.0 ≡ statuses.no_memory) }
     ensures fed { OnOk result (bytes_fed lines.new ≡ bytes_fed lines.old + length piece.now) }
 {
     let Ok(()) = feed(alloc, job, lines, report, piece) else {
-        return Err(Status(6));
+        return Err(Status::NO_MEMORY);
     };
     match flush(report, out, err) {
-        Put::Failed => Err(Status(5)),
+        Put::Failed => Err(Status::SINK_FAULT),
         Put::Done => Ok(()),
     }
 }
@@ -65,19 +68,19 @@ fn close<O: Sink, E: Sink>(
         → Follows job.now lines.old report.old left later (Gets out_got (O.got out.old)) (Gets err_got (E.got err.old))
         → bytes_fed lines.old < most_run_bytes → IsAtEnd later
         → Runs (command.Lines job.now) result.0 left later (Gets out_got (O.got out.new)) (Gets err_got (E.got err.new)) }
-    ensures faults { HasCauses (O.faults out.old) (O.faults out.new) (E.faults err.old) (E.faults err.new) (result.0 ≡ 5) }
-    ensures known { result.0 ≤ 3 ⊎ result.0 ≡ 5 ⊎ result.0 ≡ 6 }
+    ensures faults { HasCauses (O.faults out.old) (O.faults out.new) (E.faults err.old) (E.faults err.new) (result.0 ≡ statuses.sink_fault) }
+    ensures known { result.0 ≤ statuses.partial ⊎ result.0 ≡ statuses.sink_fault ⊎ result.0 ≡ statuses.no_memory }
 {
     let Ok(()) = finish(alloc, job, lines, report) else {
-        return Status(6);
+        return Status::NO_MEMORY;
     };
     match flush(report, out, err) {
-        Put::Failed => Status(5),
+        Put::Failed => Status::SINK_FAULT,
         Put::Done => {
             if report.is_partial {
-                Status(3)
+                Status::PARTIAL
             } else {
-                Status(0)
+                Status::DONE
             }
         }
     }
@@ -113,13 +116,13 @@ fn read_through<S: Source, O: Sink, E: Sink>(
     ensures tells { Tells result.0 (S.faults input.old) (S.faults input.new) (O.faults out.old) (O.faults out.new) (E.faults err.old) (E.faults err.new) }
 {
     let Ok(mut lines) = Lines::new(alloc, job.has_notes()) else {
-        return Status(6);
+        return Status::NO_MEMORY;
     };
     let mut report = Report::new(alloc);
     loop {
         let most = MOST_RUN_BYTES - lines.fed();
         if most == 0 {
-            return Status(8);
+            return Status::ENDLESS;
         }
         match pull_most(input, buffer, most) {
             Pulled::Took(count) => {
@@ -130,7 +133,7 @@ fn read_through<S: Source, O: Sink, E: Sink>(
                 }
             }
             Pulled::End => return close(alloc, job, &mut lines, &mut report, out, err),
-            Pulled::Failed => return Status(4),
+            Pulled::Failed => return Status::SOURCE_FAULT,
         }
     }
 }
@@ -152,6 +155,6 @@ pub fn work_lines<S: Source, O: Sink, E: Sink>(
 {
     match vec![in alloc; 0u8; PIECE_BYTES] {
         Ok(mut buffer) => read_through(alloc, job, buffer.as_mut_slice(), input, out, err),
-        Err(_) => Status(6),
+        Err(_) => Status::NO_MEMORY,
     }
 }

@@ -1,3 +1,5 @@
+//! The lines of a stream, reported as they are known.
+
 ghost use Rattle.std.specs.Prelude.{◌≡◌, ◌+◌, ◌≤◌, Bool, false, true, ℕ, List, ◌++◌, length, IfOk, OnOk};
 ghost use Rattle.lf_stream.specs.Standing.{bytes_fed};
 ghost use Rattle.lf_limits.specs.Limits.{least_room, most_run_bytes};

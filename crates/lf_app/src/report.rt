@@ -1,3 +1,5 @@
+//! What is to be written of lines: a text for each sink.
+
 ghost use Rattle.std.specs.Prelude.{◌≡◌, ◌||◌, true, false, ℕ, [], ◌∷◌, ◌++◌, OnOk};
 ghost use Rattle.std.specs.Fmt.{decimal};
 ghost use Rattle.lf_app.specs.Verdicts.{format_of, end_text, finding_text, finding_err, bad_text, is_listed, listed_line, IsOfFormat};
@@ -60,6 +62,7 @@ fn end_of(end: LineEnd) -> &'static [u8]
 impl Report {
     ghost use Rattle.lf_app.specs.Progress.{Reports};
 
+    /// Nothing is to be written, and no line is counted.
     pub fn new(alloc: Global) -> Report
         ensures count { result.count ≡ 0 }
         ensures listed { result.is_partial ≡ false }
@@ -123,7 +126,7 @@ impl Report {
                 self.out.push(b'\n')
             }
             Finding::Unread => self.list_line(b"unread "),
-            Finding::Written(record) => {
+            Finding::Given(record) => {
                 format.write_line(record, &mut self.out)?;
                 self.out.extend(end_of(format.end()))
             }

@@ -1,6 +1,9 @@
+//! A run of a command line, from its words to its status.
+
 ghost use Rattle.std.specs.Prelude.{◌≡◌, ◌≤◌};
 ghost use Rattle.lf_io.specs.Faults.{Rose};
 ghost use Rattle.lf_io.specs.Moves.{Gets};
+ghost use Rattle.lf_app.specs.Statuses as statuses;
 ghost use Rattle.lf_app.specs.declared.commands.Command.{Command as OneCommand};
 ghost use Rattle.lf_app.specs.Commands.{IsCommand, TakesInput};
 ghost use Rattle.lf_app.specs.Progress.{IsReady};
@@ -40,11 +43,11 @@ pub fn run<R: Threads + Sync, S: Source, O: Sink, E: Sink, G: Gate + Sync>(
     ensures cut_stream { (c : OneCommand) → IsCommand words.now c
         → IsCutStream c result.0 (S.left input.old) (S.left input.new) (S.faults input.old) (S.faults input.new) (Gets (O.got out.old) (O.got out.new)) (Gets (E.got err.old) (E.got err.new)) }
 
-    // A sink's fault is told only where one came, and fronts of the outcome's texts are written.
+    // A sink's fault is told only where one came, and prefixes of the outcome's texts are written.
     ensures sink_fault { (c : OneCommand) → IsCommand words.now c
         → IsSinkFault c result.0 (S.left input.old) (O.faults out.old) (O.faults out.new) (E.faults err.old) (E.faults err.new) (Gets (O.got out.old) (O.got out.new)) (Gets (E.got err.old) (E.got err.new)) }
 
-    // For want of memory fronts of the outcome's texts are written.
+    // For want of memory prefixes of the outcome's texts are written.
     ensures no_memory { (c : OneCommand) → IsCommand words.now c
         → IsNoMemory c result.0 (S.left input.old) (Gets (O.got out.old) (O.got out.new)) (Gets (E.got err.old) (E.got err.new)) }
 
@@ -53,12 +56,12 @@ pub fn run<R: Threads + Sync, S: Source, O: Sink, E: Sink, G: Gate + Sync>(
         → (c : OneCommand) → IsCommand words.now c → IsComplete c result.0 (S.left input.old) }
 
     // No other status comes.
-    ensures status { result.0 ≤ 8 }
+    ensures status { result.0 ≤ statuses.endless }
 {
     words_are_one_command();
     match read_command(alloc, words) {
         Ok(command) => answer(alloc, &command, input, out, err),
-        Err(OutOfMemory) => Status(6),
+        Err(OutOfMemory) => Status::NO_MEMORY,
     }
 }
 
@@ -77,9 +80,13 @@ fn answer<S: Source, O: Sink, E: Sink>(
 {
     match command {
         Command::Lines(job) => work_lines(alloc, job, input, out, err),
-        Command::Readable(slots) => tell_text(readable_text(alloc, *slots), out, 0),
-        Command::Witness(confusion) => tell_text(witness_text(alloc, confusion), out, 1),
-        Command::Show(format) => tell_text(show_text(alloc, format), out, 0),
+        Command::Readable(slots) => tell_text(readable_text(alloc, *slots), out, Status::DONE),
+        Command::Witness(confusion) => tell_text(
+            witness_text(alloc, confusion),
+            out,
+            Status::AMBIGUOUS,
+        ),
+        Command::Show(format) => tell_text(show_text(alloc, format), out, Status::DONE),
         Command::Refuse(refusal) => {
             tell_text(refusal_text(alloc, refusal), err, refusal_status(refusal))
         }

@@ -1,3 +1,5 @@
+//! The texts that show a format, a witness or a refusal.
+
 ghost use Rattle.std.specs.Prelude.{◌≡◌, ◌+◌, ◌≤◌, ◌++◌, ◌∷◌, [], length, codes, All, IfOk, OnOk};
 ghost use Rattle.std.specs.Fmt.{decimal};
 ghost use Rattle.lf_limits.specs.Limits.{most_slots};
@@ -6,15 +8,17 @@ ghost use Rattle.lf_app.specs.declared.commands.Command.TheVariants as commands;
 ghost use Rattle.lf_app.specs.declared.commands.Refusal.TheVariants as refusals;
 ghost use Rattle.lf_app.specs.Progress.{HasRecords, IsReady};
 ghost use Rattle.lf_format.specs.Keeps.{slots_in};
-ghost use Rattle.lf_app.specs.Outcome.{cause_text, refusal_text as refusal_words, refusal_status as status_of, witness_text as witness_words, kind_text, absent_text, slot_line, slot_lines};
+ghost use Rattle.lf_app.specs.Outcome.{cause_text, refusal_text as refusal_words, refusal_status as status_of, witness_text as witness_words, fault_text, kind_text, absent_text, slot_line, slot_lines};
 
 use crate::commands::Refusal;
 use crate::report::push_number;
+use crate::status::Status;
 use lf_compile::Confusion;
 use lf_core::{Bytes, OutOfMemory, Record};
 use lf_format::{Absent, Format, Piece, Slot, ValueKind};
 use lf_json::{write_record, write_text};
 use lf_limits::MOST_SIZE;
+use lf_narrow::NarrowFault;
 use lf_spelling::Cause;
 use std::alloc::Global;
 
@@ -127,6 +131,35 @@ fn push_fault(place: u32, cause: Cause, into: &mut Bytes) -> Result<(), OutOfMem
     Ok(())
 }
 
+/// Appends a word that ends with a number.
+fn push_numbered(word: &[u8], number: u32, into: &mut Bytes) -> Result<(), OutOfMemory>
+    ensures { OnOk result (into.new ≡ into.old ++ (word.now ++ decimal number)) }
+{
+    into.extend(word)?;
+    push_number(number as u64, into)
+}
+
+/// Appends what is said of a narrowing's fault.
+fn push_cause(fault: NarrowFault, into: &mut Bytes) -> Result<(), OutOfMemory>
+    ensures { OnOk result (into.new ≡ into.old ++ fault_text fault) }
+{
+    match fault {
+        NarrowFault::Syntax(place) => push_numbered(b"Syntax at ", place, into),
+        NarrowFault::NoSlot(slot) => push_numbered(b"NoSlot s", slot, into),
+        NarrowFault::WrongKind(slot) => push_numbered(b"WrongKind s", slot, into),
+        NarrowFault::Empty(slot) => push_numbered(b"Empty s", slot, into),
+        NarrowFault::OutOfMemory => Ok(()),
+    }
+}
+
+/// Appends the fault of a narrowing.
+fn push_narrowing(fault: NarrowFault, into: &mut Bytes) -> Result<(), OutOfMemory>
+    ensures { OnOk result (into.new ≡ into.old ++ refusal_words (refusals.BadNarrowing fault)) }
+{
+    into.extend(b"logfmt: source narrowing: ")?;
+    push_cause(fault, into)
+}
+
 /// Appends the size of a format that is too large.
 fn push_size(size: u64, into: &mut Bytes) -> Result<(), OutOfMemory>
     ensures { OnOk result (into.new ≡ into.old ++ refusal_words (refusals.TooLarge size)) }
@@ -156,6 +189,7 @@ fn push_refusal(refusal: &Refusal, into: &mut Bytes) -> Result<(), OutOfMemory>
         Refusal::BadWords => into.extend(b"logfmt: bad command line"),
         Refusal::NotBuilt => into.extend(b"logfmt: not built"),
         Refusal::BadFormat(place, cause) => push_fault(*place, *cause, into),
+        Refusal::BadNarrowing(fault) => push_narrowing(*fault, into),
         Refusal::TooLarge(size) => push_size(*size, into),
         Refusal::NoteLine(record) => push_note(record, into),
         Refusal::Confused(confusion) => push_witness(confusion, into),
@@ -174,14 +208,17 @@ pub fn refusal_text(alloc: Global, refusal: &Refusal) -> Result<Bytes, OutOfMemo
 }
 
 /// The status of a refusal.
-pub fn refusal_status(refusal: &Refusal) -> u8
-    ensures { result ≡ status_of refusal.now }
+pub fn refusal_status(refusal: &Refusal) -> Status
+    ensures { result.0 ≡ status_of refusal.now }
 {
     match refusal {
-        Refusal::TooLarge(_) => 7,
-        Refusal::Confused(_) => 1,
-        Refusal::BadWords | Refusal::BadFormat(_, _) | Refusal::NotBuilt | Refusal::NoteLine(_) =>
-            2,
+        Refusal::TooLarge(_) => Status::TOO_LARGE,
+        Refusal::Confused(_) => Status::AMBIGUOUS,
+        Refusal::BadWords
+        | Refusal::BadFormat(_, _)
+        | Refusal::BadNarrowing(_)
+        | Refusal::NotBuilt
+        | Refusal::NoteLine(_) => Status::USAGE,
     }
 }
 

@@ -1,3 +1,5 @@
+//! The verdict of a line.
+
 ghost use Rattle.std.specs.Prelude.{ℕ, List, IfOk};
 ghost use Rattle.lf_stream.specs.Marks.{IsBody};
 ghost use Rattle.lf_app.specs.Progress.{CanWork};
@@ -16,7 +18,7 @@ use std::alloc::Global;
 pub enum Finding {
     Read(Record),
     Unread,
-    Written(Record),
+    Given(Record),
     Bad(BadRecord),
 }
 
@@ -40,7 +42,7 @@ fn find(alloc: Global, job: &Job, line: &[u8]) -> Result<Finding, OutOfMemory>
             None => Ok(Finding::Unread),
         },
         Job::Write(format) => match read_record(alloc, line, format) {
-            Ok(record) => Ok(Finding::Written(record)),
+            Ok(record) => Ok(Finding::Given(record)),
             Err(BadRecord::OutOfMemory) => Err(OutOfMemory),
             Err(bad) => Ok(Finding::Bad(bad)),
         },

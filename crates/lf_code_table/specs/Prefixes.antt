@@ -135,34 +135,34 @@ module _ (takes : ℕ → Bool) (word : ℕ → List ℕ) where
       ]
 
   -- the text is a proper prefix of a letter's word
-  abbrev pub IsFront : List ℕ → Type 0
-  IsFront text = (c : ℕ) × (x : ℕ) × (post : List ℕ) × (takes c ≡ true) × (word c ≡ text ++ x ∷ post)
+  abbrev pub IsPrefix : List ℕ → Type 0
+  IsPrefix text = (c : ℕ) × (x : ℕ) × (post : List ℕ) × (takes c ≡ true) × (word c ≡ text ++ x ∷ post)
 
-  front-of : (n : ℕ) (text : List ℕ) → takes n ≡ true → Begins [] (word n) text → IsFront text
-  front-of n text t h = (n, h.1, h.2, t, h.3 ∙ ap (λ (z : List ℕ). z ++ h.1 ∷ h.2) (sym h.4))
+  prefix-of : (n : ℕ) (text : List ℕ) → takes n ≡ true → Begins [] (word n) text → IsPrefix text
+  prefix-of n text t h = (n, h.1, h.2, t, h.3 ∙ ap (λ (z : List ℕ). z ++ h.1 ∷ h.2) (sym h.4))
 
-  pub table-front : (n : ℕ) (text : List ℕ) → Has (prefix_table takes word n) text → (text ≡ []) ⊎ IsFront text
+  pub table-prefix : (n : ℕ) (text : List ℕ) → Has (prefix_table takes word n) text → (text ≡ []) ⊎ IsPrefix text
   unfolding prefix_table
-  table-front zero text h =
+  table-prefix zero text h =
       elim (index-cases (same_list [] text) None h.0 h.1) [
         | inl a ↦ inl (sym (same_list-true [] text a.0))
         | inr a ↦ let f : None ≡ Some a.0 = a.1 in cc
       ]
-  table-front (suc n) text h =
+  table-prefix (suc n) text h =
       elim (cases_Bool (takes n)) [
         | inl t ↦
             let k : Has (with_prefixes (prefix_table takes word n) [] (word n)) text = rw t at h in
             elim (prefixes-either (word n) [] (prefix_table takes word n) text k) [
-              | inl r ↦ table-front n text r
-              | inr r ↦ inr (front-of n text t r)
+              | inl r ↦ table-prefix n text r
+              | inr r ↦ inr (prefix-of n text t r)
             ]
-        | inr t ↦ let k : Has (prefix_table takes word n) text = rw t at h in table-front n text k
+        | inr t ↦ let k : Has (prefix_table takes word n) text = rw t at h in table-prefix n text k
       ]
 
-  pub front-table : (n c x : ℕ) (text post : List ℕ) → c < n → takes c ≡ true → word c ≡ text ++ x ∷ post → Has (prefix_table takes word n) text
+  pub prefix-table : (n c x : ℕ) (text post : List ℕ) → c < n → takes c ≡ true → word c ≡ text ++ x ∷ post → Has (prefix_table takes word n) text
   unfolding prefix_table
-  front-table zero c x text post l t e = absurd (omega arith)
-  front-table (suc n) c x text post l t e =
+  prefix-table zero c x text post l t e = absurd (omega arith)
+  prefix-table (suc n) c x text post l t e =
       elim (leb_tells n c) [
         | inl k ↦
             let z : c ≡ n = omega (arith, k.1) in
@@ -170,7 +170,7 @@ module _ (takes : ℕ → Bool) (word : ℕ → List ℕ) where
             let e2 : word n ≡ text ++ x ∷ post = ap word (sym z) ∙ e in
             rw t2 (prefixes-there (word n) [] (prefix_table takes word n) text post x e2)
         | inr k ↦
-            let r = front-table n c x text post k.1 t e in
+            let r = prefix-table n c x text post k.1 t e in
             elim (cases_Bool (takes n)) [
               | inl s ↦ (r.0, rw s (prefixes-keep (word n) [] (prefix_table takes word n) text r.0 r.1))
               | inr s ↦ (r.0, rw s r.1)

@@ -1,3 +1,5 @@
+//! The table of a code: the proper prefixes of its words, and the letters whose words a byte ends.
+
 ghost use Rattle.std.specs.Prelude.{◌≡◌, ◌<◌, ◌^◌, ◌++◌, [], ◌∷◌, IfOk, length, get_or};
 ghost use Rattle.std.specs.Option.{ForSome};
 ghost use Rattle.lf_escape.specs.Codings.{coding_takes, coding_word};
@@ -37,6 +39,7 @@ impl Model for CodeTable {
 }
 
 impl CodeTable {
+    /// The table of the code, made of the words of all its letters.
     pub fn build(alloc: Global, code: Coding) -> Result<CodeTable, OutOfMemory>
         ensures { IfOk result (λ table. table ≡ code) }
     {
@@ -53,6 +56,7 @@ impl CodeTable {
         })
     }
 
+    /// The code that the table is of.
     pub fn code(&self) -> Coding
         ensures { result ≡ self.now }
     {

@@ -1,3 +1,5 @@
+//! The letters of a code, by the last bytes of their words.
+
 ghost use Rattle.std.specs.Prelude.{◌≡◌, ℕ, ◌+◌, ◌<◌, [], IfOk, OnOk, length, get_or, replicate};
 ghost use Rattle.lf_code_table.specs.Endings.{last_of, letters_ending, HasEndings};
 

@@ -1,3 +1,5 @@
+//! What stands ready by one byte: the letters whose word it is, and the number of the prefix that it is.
+
 ghost use Rattle.std.specs.Prelude.{◌≡◌, ◌<◌, ◌^◌, ◌++◌, IfOk, OnOk, length, map};
 ghost use Rattle.lf_code_table.specs.Lone.{is_lone, lone_of, HasFirsts};
 

@@ -1,3 +1,5 @@
+//! The proper prefixes of a code's words.
+
 ghost use Rattle.std.specs.Prelude.{◌≡◌, ℕ, ◌+◌, ◌<◌, ◌++◌, [], ◌∷◌, OnOk, IfOk, List, Bool, cond, is_some, length};
 ghost use Rattle.lf_code_table.specs.Table.{same_list, index_of, added, with_prefixes, prefix_table};
 

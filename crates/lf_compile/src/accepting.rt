@@ -1,3 +1,4 @@
+//! Whether a format has a reader, and the cause where it has none.
 ghost use Rattle.std.specs.Prelude.{◌≡◌, ℕ, ◌≤◌, ◌⊎◌, List, Option, MatchOption, MatchResult, IfOk, IfErr, true};
 ghost use Rattle.lf_core.specs.declared.values.Value.{Value};
 ghost use Rattle.lf_core.specs.Written.{written};
@@ -18,7 +19,7 @@ use lf_format::Format;
 use lf_limits::MOST_SIZE;
 use lf_machine::FormatMachine;
 use lf_product::{Pairs, distances};
-use lf_written::Written;
+use lf_written::WrittenOut;
 use std::alloc::Global;
 
 /// The reader of a readable format. A refusal gives the format back.
@@ -49,7 +50,7 @@ pub fn compile(alloc: Global, format: Format) -> Result<Reader, CompileRefused>
 }
 
 /// The machine of the format, where that has a reader.
-fn readable_machine(alloc: Global, format: &Format) -> Result<Written<FormatMachine>, Refused>
+fn readable_machine(alloc: Global, format: &Format) -> Result<WrittenOut<FormatMachine>, Refused>
     requires { size_of format.now.pieces ≤ most_size }
     ensures same { IfOk result (λ machine. machine ≡ format.now.pieces) }
     ensures ok { IfOk result (λ machine. IsAccepted format.now) }
@@ -63,7 +64,7 @@ fn readable_machine(alloc: Global, format: &Format) -> Result<Written<FormatMach
     }
     match least_confusion(alloc, &machine, &pairs)? {
         Some(confusion) => Err(Refused::Ambiguous(confusion)),
-        None => Ok(Written::new(machine, pairs.into_table())),
+        None => Ok(WrittenOut::new(machine, pairs.into_table())),
     }
 }
 

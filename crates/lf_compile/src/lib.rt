@@ -3,6 +3,7 @@
 
 mod accepting;
 mod confusion;
+/// Laws over the definitions: a format has one answer, and a line has a record or none.
 pub mod laws;
 mod meaning;
 mod note;

@@ -6,7 +6,7 @@ ghost use Rattle.lf_machine.specs.Runs.{HasLine, HasRuns, IsRecordOfRun};
 
 use lf_core::{OutOfMemory, Record, Run};
 use lf_machine::FormatMachine;
-use lf_written::Written;
+use lf_written::WrittenOut;
 
 /// Has one whole run for each record, in the records' order.
 pub(crate) fn means_records(machine: &FormatMachine)
@@ -18,7 +18,7 @@ pub(crate) fn means_records(machine: &FormatMachine)
 }
 
 /// The same, of the machine that is written out.
-pub(crate) fn has_runs(machine: &Written<FormatMachine>)
+pub(crate) fn has_runs(machine: &WrittenOut<FormatMachine>)
     ensures { HasRuns machine.now (line_machine machine.now) (record_moves machine.now) }
 {
     let source = machine.source();
@@ -26,7 +26,7 @@ pub(crate) fn has_runs(machine: &Written<FormatMachine>)
 }
 
 /// The record whose run this is.
-pub(crate) fn decode(machine: &Written<FormatMachine>, run: &Run) -> Result<Record, OutOfMemory>
+pub(crate) fn decode(machine: &WrittenOut<FormatMachine>, run: &Run) -> Result<Record, OutOfMemory>
     requires { HasLine (line_machine machine.now) run.now }
     ensures { IfOk result (λ rec.
         IsRecordOfRun machine.now (line_machine machine.now) (record_moves machine.now) run.now rec) }

@@ -1,3 +1,4 @@
+//! The reader of a readable format.
 ghost use Rattle.std.specs.Prelude.{◌≡◌, MatchOption, IfOk};
 ghost use Rattle.lf_format.specs.Lines.{IsReadable, PrintsNone};
 ghost use Rattle.lf_compile.specs.Accepted.{IsAccepted};
@@ -8,7 +9,7 @@ use lf_core::{OutOfMemory, Record};
 use lf_format::Format;
 use lf_machine::FormatMachine;
 use lf_sets::SetReader;
-use lf_written::Written;
+use lf_written::WrittenOut;
 use std::alloc::Global;
 use std::marker::Model;
 
@@ -16,7 +17,7 @@ use std::marker::Model;
 #[derive(Drop)]
 pub struct Reader {
     format: Format,
-    machine: Written<FormatMachine>,
+    machine: WrittenOut<FormatMachine>,
 }
 
 impl Model for Reader {
@@ -31,7 +32,7 @@ impl Model for Reader {
 }
 
 impl Reader {
-    pub(crate) fn new(format: Format, machine: Written<FormatMachine>) -> Reader
+    pub(crate) fn new(format: Format, machine: WrittenOut<FormatMachine>) -> Reader
         requires accepted { IsAccepted format }
         requires same { machine ≡ format.pieces }
         ensures { result ≡ format }
@@ -69,7 +70,7 @@ impl Reader {
 /// The one record of a readable format's machine that prints the line.
 fn read_line(
     alloc: Global,
-    machine: &Written<FormatMachine>,
+    machine: &WrittenOut<FormatMachine>,
     line: &[u8],
 ) -> Result<Option<Record>, OutOfMemory>
     requires { IsReadable machine.now }

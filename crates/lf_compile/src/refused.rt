@@ -1,3 +1,4 @@
+//! Why a format has no reader.
 ghost use Rattle.std.specs.Prelude.{◌≡◌};
 
 use lf_core::{Bytes, OutOfMemory, Record};
@@ -7,7 +8,9 @@ use lf_format::Format;
 #[derive(Debug, Drop)]
 pub struct Confusion {
     pub line: Bytes,
+    /// The least record that prints the line.
     pub first: Record,
+    /// The least of the other records that print it.
     pub second: Record,
 }
 
@@ -20,6 +23,7 @@ pub enum Refused {
     Hash(Record),
     /// Two different records print one line.
     Ambiguous(Confusion),
+    /// Memory ran out, and the format may be readable or not.
     OutOfMemory,
 }
 

@@ -1,3 +1,4 @@
+-- The definitions and laws of classes, domains, marked machines and runs.
 pub mod Adds
 pub mod Class
 pub mod Classes

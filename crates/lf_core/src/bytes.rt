@@ -1,3 +1,5 @@
+//! Byte lists.
+
 ghost use Rattle.std.specs.Prelude.{◌≡◌, ◌↔◌, List, ℕ, [], ◌∷◌, ◌++◌, length, IfOk, IsTrue, OnOk, OnErr};
 
 use crate::memory::OutOfMemory;
@@ -17,6 +19,7 @@ impl Model for Bytes {
 }
 
 impl Bytes {
+    /// An empty list, which takes memory with its first byte.
     pub fn new(alloc: Global) -> Bytes
         ensures { result ≡ [] }
     {
@@ -25,18 +28,21 @@ impl Bytes {
         }
     }
 
+    /// How many bytes the list has.
     pub fn len(&self) -> usize
         ensures { result ≡ length self.now }
     {
         self.items.len()
     }
 
+    /// Whether the list has no byte.
     pub fn is_empty(&self) -> bool
         ensures { IsTrue result ↔ (self.now ≡ []) }
     {
         self.items.is_empty()
     }
 
+    /// The bytes, in order.
     pub fn as_slice(&self) -> &[u8]
         ensures { result.now ≡ self.now }
     {
@@ -50,6 +56,7 @@ impl Bytes {
         self.items.clear();
     }
 
+    /// Adds the byte at the end. After want of memory the list is as it was.
     pub fn push(&mut self, byte: u8) -> Result<(), OutOfMemory>
         ensures ok { OnOk result (self.new ≡ self.old ++ byte ∷ []) }
         ensures err { OnErr result (self.new ≡ self.old) }
@@ -58,6 +65,7 @@ impl Bytes {
         Ok(())
     }
 
+    /// Adds all of the bytes at the end. After want of memory the list is as it was.
     pub fn extend(&mut self, more: &[u8]) -> Result<(), OutOfMemory>
         ensures ok { OnOk result (self.new ≡ self.old ++ more.now) }
         ensures err { OnErr result (self.new ≡ self.old) }

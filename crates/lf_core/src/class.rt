@@ -1,3 +1,5 @@
+//! Classes: sets of bytes.
+
 ghost use Rattle.std.specs.Prelude.{◌≡◌, ℕ, ◌<◌, ◌↔◌, ◌==◌, ◌&&◌, ◌||◌, [], IsTrue, not, leb, cond, length, slice_index};
 ghost use Rattle.lf_core.specs.Class.{is_member, members, members_below};
 ghost use Rattle.std.specs.Int.{bit_at};
@@ -82,6 +84,7 @@ impl Class {
         all
     }
 
+    /// Whether the byte is in the set.
     pub fn has(&self, b: u8) -> bool
         ensures { result ≡ is_member self.now b }
     {
@@ -92,18 +95,21 @@ impl Class {
         }
     }
 
+    /// The set with the byte in it.
     pub fn with(self, b: u8) -> Class
         ensures { (x : ℕ) → x < 256 → is_member result x ≡ (is_member self x || x == b) }
     {
         self.put(b, true)
     }
 
+    /// The set without the byte.
     pub fn without(self, b: u8) -> Class
         ensures { (x : ℕ) → x < 256 → is_member result x ≡ (is_member self x && not (x == b)) }
     {
         self.put(b, false)
     }
 
+    /// The bytes that are in both sets.
     pub fn both(self, other: Class) -> Class
         ensures { (x : ℕ) → x < 256 → is_member result x ≡ (is_member self x && is_member other x) }
     {
@@ -113,6 +119,7 @@ impl Class {
         }
     }
 
+    /// Whether no byte is in the set.
     pub fn is_empty(&self) -> bool
         ensures { IsTrue result ↔ (members self.now ≡ []) }
     {

@@ -1,3 +1,5 @@
+//! The trait of domains: sets of values, each with its plain text.
+
 ghost use Rattle.std.specs.Prelude.{◌≡◌, ◌<◌, ◌↔◌, ℕ, List, ◌++◌, IsTrue, IfOk, OnErr, OnOk, MatchOption};
 ghost use Rattle.lf_core.specs.declared.values.Value.{Value};
 ghost use Rattle.lf_core.specs.Adds.{AddsFront};
@@ -23,6 +25,7 @@ pub trait Domain {
     /// The most points that the machine may have.
     ghost size: { Self → ℕ };
 
+    /// Whether the domain holds the value.
     fn check(&self, value: &Value) -> bool
         ensures { IsTrue result ↔ holds self.now value.now };
 
@@ -40,13 +43,16 @@ pub trait Domain {
     fn points(&self) -> u32
         ensures { result ≡ (machine self.now).count };
 
+    /// The point where the machine begins.
     fn start(&self) -> u32
         ensures { result ≡ (machine self.now).first };
 
+    /// The point after the letter, and none where the machine has no step by it.
     fn step(&self, point: u32, letter: u8) -> Option<u32>
         requires { point < (machine self.now).count }
         ensures { result ≡ (machine self.now).next point letter };
 
+    /// Whether a plain text may end at the point.
     fn ends(&self, point: u32) -> bool
         requires { point < (machine self.now).count }
         ensures { result ≡ (machine self.now).is_end point };

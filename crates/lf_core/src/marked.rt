@@ -1,3 +1,5 @@
+//! The trait of marked machines, and their moves.
+
 ghost use Rattle.std.specs.Prelude.{◌≡◌, ◌<◌, OnOk, OnErr};
 ghost use Rattle.lf_core.specs.Adds.{BeginsWith};
 ghost use Rattle.lf_core.specs.Marked.{Machine, IsMachine};
@@ -15,11 +17,14 @@ pub struct Move {
 
 /// A machine over bytes whose moves carry marks. Its points are the numbers below `points`.
 pub trait Marked {
+    /// The machine as contracts see it.
     ghost machine: { Self → Machine };
 
+    /// How many points the machine has.
     fn points(&self) -> u32
         ensures { result ≡ (machine self.now).count };
 
+    /// The point where runs begin.
     fn start(&self) -> u32
         ensures { result ≡ (machine self.now).first };
 
@@ -34,6 +39,7 @@ pub trait Marked {
         ensures ok { OnOk result (into.new.items ≡ (machine self.now).moves point byte) }
         ensures err { OnErr result (BeginsWith ((machine self.now).moves point byte) into.new.items) };
 
+    /// Whether a whole run may stop at the point.
     fn ends(&self, point: u32) -> bool
         requires { point < (machine self.now).count }
         ensures { result ≡ (machine self.now).is_end point };

@@ -1,3 +1,5 @@
+//! Records: the values of a line's slots.
+
 ghost use Rattle.std.specs.Prelude.{◌≡◌, ◌<◌, [], ◌∷◌, ◌++◌, length, slice_index_or, IfOk, OnOk, OnErr};
 
 use crate::memory::OutOfMemory;
@@ -21,6 +23,7 @@ impl Model for Record {
 }
 
 impl Record {
+    /// A record of no value, which takes memory with its first one.
     pub fn new(alloc: Global) -> Record
         ensures { result ≡ [] }
     {
@@ -38,12 +41,14 @@ impl Record {
         Ok(())
     }
 
+    /// How many values the record has.
     pub fn len(&self) -> usize
         ensures { result ≡ length self.now }
     {
         self.values.len()
     }
 
+    /// The value at the place, counted from 0.
     pub fn get(&self, at: usize) -> &Value
         requires { at < length self.now }
         ensures { result.now ≡ slice_index_or self.now at result.now }
@@ -51,6 +56,7 @@ impl Record {
         &self.values[at]
     }
 
+    /// The values, in order.
     pub fn as_slice(&self) -> &[Value]
         ensures { result.now ≡ self.now }
     {

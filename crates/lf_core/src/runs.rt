@@ -1,3 +1,5 @@
+//! Runs: lists of moves.
+
 ghost use Rattle.std.specs.Prelude.{◌≡◌, ◌<◌, [], ◌∷◌, ◌++◌, length, reverse, slice_index_or, OnOk, OnErr};
 ghost use Rattle.lf_core.specs.Marked.{no_move};
 
@@ -22,6 +24,7 @@ impl Model for Run {
 }
 
 impl Run {
+    /// A run of no move, which takes memory with its first one.
     pub fn new(alloc: Global) -> Run
         ensures { result ≡ [] }
     {
@@ -48,12 +51,14 @@ impl Run {
         Ok(())
     }
 
+    /// How many moves the run has, one for each byte.
     pub fn len(&self) -> usize
         ensures { result ≡ length self.now }
     {
         self.moves.len()
     }
 
+    /// The move at the place, counted from 0.
     pub fn get(&self, at: usize) -> Move
         requires { at < length self.now }
         ensures { result ≡ slice_index_or self.now at no_move }
@@ -61,6 +66,7 @@ impl Run {
         self.moves[at]
     }
 
+    /// The moves, in order.
     pub fn as_slice(&self) -> &[Move]
         ensures { result.now ≡ self.now }
     {

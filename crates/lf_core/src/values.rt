@@ -1,3 +1,5 @@
+//! Values of slots, and moments among them.
+
 ghost use Rattle.std.specs.Prelude.{◌≡◌, IfOk};
 
 use crate::bytes::Bytes;
@@ -9,6 +11,7 @@ use crate::memory::OutOfMemory;
 #[derive(Clone, Copy, Debug, PartialEq, Eq)]
 pub struct Moment {
     pub seconds: i64,
+    /// Thousandths of a second, on top of `seconds`.
     pub millis: u16,
     pub offset: i16,
 }
@@ -16,8 +19,10 @@ pub struct Moment {
 /// What one slot of a line says. `Day` counts days from 1970-01-01, and `Clock` seconds from midnight.
 #[derive(Debug, Drop)]
 pub enum Value {
+    /// There is no value.
     Missing,
     Num(i64),
+    /// A text of any bytes, which need not be UTF-8.
     Text(Bytes),
     Moment(Moment),
     Day(i32),

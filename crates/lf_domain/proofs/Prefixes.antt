@@ -1,4 +1,4 @@
--- Fronts of words, and what a new word keeps of a list.
+-- Prefixes of words, and what a new word keeps of a list.
 use Rattle.std.proofs.Common.{◌≡◌, ◌≢◌, ℕ, ◌+◌, ◌<◌, ◌≤◌, List, [], ◌∷◌, ◌++◌, length, drop, get_or, Bool, true, false, nat_eq, arith, refl, sym, ap, ◌∙◌, inl, inr, append_assoc, Contains}
 use Rattle.std.specs.List.{starts_with}
 use Rattle.std.proofs.lemmas.Bool.{cases_Bool}
@@ -14,7 +14,7 @@ otherwise : (b : Bool) → (b ≡ true → ⊥) → b ≡ false
 otherwise true h = absurd (h refl)
 otherwise false h = refl
 
--- a word that doesn't begin with the front doesn't begin with a longer one
+-- a word that doesn't begin with the prefix doesn't begin with a longer one
 pub front-other : (word front : List ℕ) (c : ℕ) → starts_with nat_eq word front ≡ false → starts_with nat_eq word (front ++ c ∷ []) ≡ false
 front-other word front c h =
     otherwise (starts_with nat_eq word (front ++ c ∷ [])) (λ t.
@@ -23,7 +23,7 @@ front-other word front c h =
     let f = front_found word front (c ∷ rest) e in
     absurd (cc))
 
--- a word that begins with the front begins with one more letter where that is its next
+-- a word that begins with the prefix begins with one more letter where that is its next
 pub front-last : (word front : List ℕ) (c : ℕ) → starts_with nat_eq word front ≡ true → length front < length word → nat_eq (get_or word (length front) 0) c ≡ starts_with nat_eq word (front ++ c ∷ [])
 front-last word front c t h =
     let x = get_or word (length front) 0 in

@@ -16,7 +16,7 @@ use Rattle.lf_domain.specs.Texts.{text_of}
 use Rattle.lf_domain.specs.TextLaws.{domain_of_texts}
 use Rattle.lf_domain.specs.WordLists.{letter_count, IsWordOf, HoldsWord, is_word, is_prefix, letters_before, point_of, prefix_at, point_if, word_machine}
 
--- what a test of the front tells, and what it takes
+-- what a test of a prefix tells, and what it takes
 pub front_rest : (word front : List ℕ) → starts_with nat_eq word front ≡ true → word ≡ front ++ drop (length front) word
 front_rest word front h = (starts_is Decides-eqb word front (starts_with nat_eq word front) refl).0 h
 
@@ -89,7 +89,7 @@ point_of-most (word ∷ words) letters h =
           omega (arith, point_of-later word words letters f, point_of-most words letters (inl g.0), sum_by-cons length word words)
     ]
 
--- some word begins with the front of a word
+-- some word begins with the prefix of a word
 pub word_begun : (words : List (List ℕ)) (front rest : List ℕ) → is_word words (front ++ rest) ≡ true → is_prefix words front ≡ true
 word_begun words front rest h =
     let a = Any-from_list_any (λ word. bytes_eq word (front ++ rest)) words h in

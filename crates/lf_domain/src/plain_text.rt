@@ -1,3 +1,5 @@
+//! Texts as values: their letters are their plain text.
+
 ghost use Rattle.std.specs.Prelude.{◌≡◌, ◌++◌, IfOk, OnOk, OnErr};
 ghost use Rattle.lf_domain.specs.Texts.{text_of};
 

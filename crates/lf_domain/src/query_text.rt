@@ -1,3 +1,5 @@
+//! The domain of queries: nothing, or a question mark and letters of a class.
+
 ghost use Rattle.std.specs.Prelude.{IsTrue, ◌↔◌};
 ghost use Rattle.lf_domain.specs.Texts.{HoldsQuery, IsQuery, text_of, query_machine};
 
@@ -8,6 +10,7 @@ use std::alloc::Global;
 /// The empty text, and the texts of a question mark and then letters of a class.
 #[derive(Clone, Copy, Debug, PartialEq, Eq)]
 pub struct QueryText {
+    /// The letters after the question mark.
     pub class: Class,
 }
 

@@ -1,3 +1,5 @@
+//! The domain of the texts of a class whose lengths are in a range.
+
 ghost use Rattle.std.specs.Prelude.{◌≡◌, ℕ, ◌+◌, ◌≤◌, IsTrue, ◌↔◌, length};
 ghost use Rattle.lf_limits.specs.Limits.{most_length};
 ghost use Rattle.std.specs.Option.{ForSome};

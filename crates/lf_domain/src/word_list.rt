@@ -1,3 +1,5 @@
+//! Lists of different words.
+
 ghost use Rattle.std.specs.Prelude.{◌≡◌, ◌+◌, ◌<◌, ◌≤◌, ◌↔◌, [], ◌∷◌, ◌++◌, length, slice_index_or, Contains, IsTrue, IfOk, OnOk, OnErr};
 ghost use Rattle.lf_limits.specs.Limits.{most_list_bytes};
 ghost use Rattle.lf_domain.specs.WordLists.{letter_count, IsWordList};
@@ -24,6 +26,7 @@ impl Model for WordList {
 }
 
 impl WordList {
+    /// A list of no word.
     pub fn new(alloc: Global) -> WordList
         ensures { result ≡ [] }
     {
@@ -32,12 +35,14 @@ impl WordList {
         }
     }
 
+    /// How many words the list has.
     pub fn len(&self) -> usize
         ensures { result ≡ length self.now }
     {
         self.words.len()
     }
 
+    /// Whether the list has no word.
     pub fn is_empty(&self) -> bool
         ensures { IsTrue result ↔ (self.now ≡ []) }
     {
@@ -56,6 +61,7 @@ impl WordList {
         count
     }
 
+    /// The word at the place, counted from 0.
     pub fn get(&self, at: usize) -> &[u8]
         requires { at < length self.now }
         ensures { result.now ≡ slice_index_or self.now at [] }

@@ -1,3 +1,5 @@
+//! The domain of the words of a list, whose machine has a point for each of their prefixes.
+
 ghost use Rattle.std.specs.Prelude.{◌≡◌, ◌+◌, ◌≤◌, ◌∷◌, [], ◌++◌, nat_eq, IsTrue, ◌↔◌, IfOk};
 ghost use Rattle.lf_limits.specs.Limits.{most_list_bytes};
 ghost use Rattle.std.specs.List.{starts_with};

@@ -1,1 +1,2 @@
+-- The definitions that the tests of small formats need.
 pub mod Leading

@@ -1,3 +1,4 @@
+-- The definitions and laws of codes.
 pub mod Codes
 pub mod Escapes
 pub mod Case

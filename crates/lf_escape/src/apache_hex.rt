@@ -1,3 +1,5 @@
+//! The code of Apache's log.
+
 ghost use Rattle.lf_escape.specs.Codes.{byte_takes};
 ghost use Rattle.lf_escape.specs.Apache.{apache_word};
 ghost use Rattle.lf_escape.specs.CodeLaws.{apache_code};

@@ -1,3 +1,5 @@
+//! The traits of codes: a word for each letter, and words that tell their letters.
+
 ghost use Rattle.std.specs.Prelude.{◌≡◌, ℕ, List, Bool, true};
 ghost use Rattle.lf_escape.specs.Codes.{IsCode, AreWordsApart};
 
@@ -11,9 +13,11 @@ pub trait Code {
     /// The word of a letter that is taken.
     ghost word: { Self → ℕ → List ℕ };
 
+    /// Whether the code takes the letter.
     fn takes(&self, letter: u8) -> bool
         ensures { result ≡ can_take self.now letter };
 
+    /// The word of a letter that is taken.
     fn word_of(&self, letter: u8) -> Word
         requires { can_take self.now letter ≡ true }
         ensures { result ≡ word self.now letter };

@@ -15,14 +15,23 @@ use crate::word::Word;
 /// The code in which a slot writes the letters of a plain text.
 #[derive(Clone, Copy, Debug, PartialEq, Eq)]
 pub enum Coding {
+    /// Each letter stands for itself.
     Raw,
+    /// Apache: a backslash and a letter, or `\x` and two lower-case digits.
     ApacheHex,
+    /// nginx: `\x` and two upper-case digits.
     NginxHex,
+    /// nginx with `escape=json`: as in a JSON string.
     NginxJson,
+    /// HAProxy: `#` and two upper-case digits.
     HaHash,
+    /// The captured headers of HAProxy: the same, braces and bars too, and a bar for a line feed.
     HaCapture,
+    /// HAProxy with the flag E: a backslash before a double quote, a backslash and `]`.
     HaEscape,
+    /// IIS: a plus sign for a space.
     PlusSpace,
+    /// The W3C's draft: two double quotes for one.
     Doubled,
 }
 

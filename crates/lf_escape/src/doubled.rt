@@ -1,3 +1,5 @@
+//! The code that doubles double quotes.
+
 ghost use Rattle.lf_escape.specs.Codes.{line_takes};
 ghost use Rattle.lf_escape.specs.Plain.{doubled_word};
 ghost use Rattle.lf_escape.specs.CodeLaws.{doubled_code};

@@ -1,3 +1,5 @@
+//! What the words of several codes are made of: hexadecimal digits, and bytes after a backslash or a hash.
+
 ghost use Rattle.std.specs.Prelude.{◌≡◌, ◌<◌, ◌&&◌, ◌/◌, ◌%◌, nat_le};
 ghost use Rattle.std.specs.Fmt.{digit_glyph};
 ghost use Rattle.lf_escape.specs.Case.{is_upper};

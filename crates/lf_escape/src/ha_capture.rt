@@ -1,3 +1,5 @@
+//! The code of HAProxy's captured headers.
+
 ghost use Rattle.lf_escape.specs.Codes.{byte_takes};
 ghost use Rattle.lf_escape.specs.HaProxy.{capture_word};
 ghost use Rattle.lf_escape.specs.CodeLaws.{capture_code};

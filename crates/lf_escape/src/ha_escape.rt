@@ -1,3 +1,5 @@
+//! The code of HAProxy's log under the flag E.
+
 ghost use Rattle.lf_escape.specs.Codes.{line_takes};
 ghost use Rattle.lf_escape.specs.HaProxy.{escape_word};
 ghost use Rattle.lf_escape.specs.CodeLaws.{escape_code};

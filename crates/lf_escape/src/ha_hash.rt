@@ -1,3 +1,5 @@
+//! The code of HAProxy's log.
+
 ghost use Rattle.lf_escape.specs.Codes.{byte_takes};
 ghost use Rattle.lf_escape.specs.HaProxy.{hash_word};
 ghost use Rattle.lf_escape.specs.CodeLaws.{hash_code};

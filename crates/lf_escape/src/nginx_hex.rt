@@ -1,3 +1,5 @@
+//! The default code of nginx's log.
+
 ghost use Rattle.lf_escape.specs.Codes.{byte_takes};
 ghost use Rattle.lf_escape.specs.Nginx.{nginx_word};
 ghost use Rattle.lf_escape.specs.CodeLaws.{nginx_code};

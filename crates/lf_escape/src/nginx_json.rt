@@ -1,3 +1,5 @@
+//! The code of nginx's log in JSON.
+
 ghost use Rattle.lf_escape.specs.Codes.{byte_takes};
 ghost use Rattle.lf_escape.specs.Nginx.{json_word};
 ghost use Rattle.lf_escape.specs.CodeLaws.{json_code};

@@ -1,3 +1,5 @@
+//! The code of IIS, by which a space is a plus sign.
+
 ghost use Rattle.lf_escape.specs.Codes.{line_takes};
 ghost use Rattle.lf_escape.specs.Plain.{plus_word};
 

@@ -1,3 +1,5 @@
+//! The code by which each letter stands for itself.
+
 ghost use Rattle.lf_escape.specs.Codes.{line_takes};
 ghost use Rattle.lf_escape.specs.Plain.{raw_word};
 ghost use Rattle.lf_escape.specs.CodeLaws.{raw_code};

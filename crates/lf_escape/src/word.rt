@@ -1,3 +1,5 @@
+//! The words of codes.
+
 ghost use Rattle.std.specs.Prelude.{◌≡◌, ℕ, ◌≤◌, List, [], ◌∷◌, length, take};
 
 use std::marker::Model;
@@ -18,6 +20,7 @@ impl Model for Word {
 }
 
 impl Word {
+    /// The bytes, in order.
     pub fn as_slice(&self) -> &[u8]
         ensures bytes { result.now ≡ self.now }
         ensures size { (1 ≤ length result.now) × (length result.now ≤ 6) }

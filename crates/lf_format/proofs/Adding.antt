@@ -1,4 +1,4 @@
--- Fronts of what is added in parts.
+-- Prefixes of what is added in parts.
 use Rattle.std.proofs.Common.{◌≡◌, ℕ, ◌+◌, ◌<◌, List, [], ◌∷◌, ◌++◌, length, take, drop, get_or, refl, sym, ap, ◌∙◌, append_assoc, append-nil}
 use Rattle.std.specs.Prelude.{Result, Ok, Err, OnOk, OnErr}
 use Rattle.std.proofs.lemmas.List.{take_more, take-append-drop}
@@ -9,12 +9,12 @@ use Rattle.lf_core.specs.Adds.{AddsFront}
 pub adds-none : (old added : List ℕ) → AddsFront old old added
 adds-none old added = ([], added, refl, sym (append-nil old))
 
--- A part was added, and then a front of the rest.
+-- A part was added, and then a prefix of the rest.
 pub adds-more : (old mid new part rest added : List ℕ) → mid ≡ old ++ part → added ≡ part ++ rest → AddsFront mid new rest → AddsFront old new added
 adds-more old mid new part rest added m a f =
     (part ++ f.0, f.1, a ∙ ap (λ (x : List ℕ). part ++ x) f.2 ∙ sym (append_assoc part f.0 f.1), f.3 ∙ ap (λ (x : List ℕ). x ++ f.0) m ∙ append_assoc old part f.0)
 
--- A front of the first part was added.
+-- A prefix of the first part was added.
 pub adds-first : (old new part rest added : List ℕ) → added ≡ part ++ rest → AddsFront old new part → AddsFront old new added
 adds-first old new part rest added a f = (f.0, f.1 ++ rest, a ∙ ap (λ (x : List ℕ). x ++ rest) f.2 ∙ append_assoc f.0 f.1 rest, f.3)
 

@@ -1,3 +1,4 @@
+-- The definitions and laws of formats, kinds and slots.
 pub mod Shape
 pub mod Kinds
 pub mod Slots

@@ -1,3 +1,5 @@
+//! Whether a value's plain text is taken for absence.
+
 ghost use Rattle.std.specs.Prelude.{◌≡◌, ◌↔◌, IsTrue, [], ◌∷◌};
 ghost use Rattle.lf_core.specs.declared.values.Value.TheVariants as Value;
 ghost use Rattle.lf_format.specs.Kinds.{HoldsKind, plain_text};

@@ -1,3 +1,5 @@
+//! Formats and their pieces.
+
 ghost use Rattle.std.specs.Prelude.{◌≡◌, ◌-◌, ◌≤◌, ◌++◌, ◌↔◌, length, slice_index_or, IsTrue, IfOk, OnOk, OnErr};
 ghost use Rattle.lf_limits.specs.Limits.{most_slots};
 ghost use Rattle.lf_core.specs.Adds.{AddsFront};
@@ -20,7 +22,9 @@ pub enum Piece {
 /// What ends a line.
 #[derive(Clone, Copy, Debug, PartialEq, Eq)]
 pub enum LineEnd {
+    /// A line feed.
     Lf,
+    /// A carriage return and a line feed.
     CrLf,
 }
 
@@ -44,6 +48,7 @@ impl Model for Format {
 }
 
 impl Format {
+    /// A format of at least one piece, of which no two neighbours are literals.
     pub fn new(pieces: Vec<Piece>, end: LineEnd, notes: bool) -> Format
         requires { KeepsFormat pieces.items }
         ensures { result ≡ record { pieces = pieces.items; end = end; notes = notes } }
@@ -51,6 +56,7 @@ impl Format {
         Format { pieces, end, notes }
     }
 
+    /// The pieces, in order.
     pub fn pieces(&self) -> &[Piece]
         ensures pieces { result.now ≡ self.now.pieces }
         ensures keeps { KeepsFormat self.now.pieces }
@@ -74,12 +80,14 @@ impl Format {
         slot_at(self.pieces.as_slice(), k)
     }
 
+    /// What ends a line that is written.
     pub fn end(&self) -> LineEnd
         ensures { result ≡ self.now.end }
     {
         self.end
     }
 
+    /// Whether lines that begin with `#` are notes.
     pub fn notes(&self) -> bool
         ensures { result ≡ self.now.notes }
     {

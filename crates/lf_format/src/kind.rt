@@ -1,3 +1,5 @@
+//! Kinds: the domains that a slot may have.
+
 ghost use Rattle.std.specs.Prelude.{◌≡◌, ◌≤◌, ◌≤ℤ◌, ℕ, pos, List, IfOk};
 ghost use Rattle.lf_limits.specs.Limits.{most_length};
 ghost use Rattle.lf_core.specs.declared.values.Value.{Value};
@@ -12,18 +14,31 @@ use std::alloc::Global;
 /// The domain of a slot's values.
 #[derive(Debug, Drop)]
 pub enum Kind {
+    /// Numbers in decimal.
     Num(NumRange),
+    /// Numbers in decimal, with zero as `-`.
     DashZero(DashZero),
+    /// Numbers of thousandths, with a point and three digits.
     Fixed3(Fixed3),
+    /// Numbers with leading zeros up to a width.
     Padded(Padded),
+    /// The words of a list.
     Words(Words),
+    /// Texts of a class whose lengths are in a range.
     Text(TextSet),
+    /// Nothing, or `?` and letters of a class.
     Query(QueryText),
+    /// Moments like `10/Oct/2000:13:55:36 -0700`.
     Clf(ClfTime),
+    /// Moments like `2000-10-10T13:55:36-07:00`.
     Iso(IsoOffset),
+    /// Moments like `2016-04-15T20:17:00.310Z`.
     IsoMillis(IsoMillisZ),
+    /// Moments like `06/Feb/2009:12:14:14.655`.
     Ha(HaTime),
+    /// Days like `2000-10-10`.
     Date(W3cDate),
+    /// Times of the day like `13:55:36`.
     Clock(W3cClock),
 }
 

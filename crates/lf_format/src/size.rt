@@ -1,3 +1,5 @@
+//! The size of a format, which bounds the points of its machine.
+
 ghost use Rattle.std.specs.Prelude.{◌≡◌, ◌+◌, ◌*◌, ◌≤◌, length};
 ghost use Rattle.lf_limits.specs.Limits.{most_slots, most_literal_bytes};
 ghost use Rattle.lf_format.specs.Keeps.{slots_in, literal_bytes};

@@ -1,3 +1,5 @@
+//! Slots, and the values that they hold.
+
 ghost use Rattle.std.specs.Prelude.{◌≡◌, ◌↔◌, IsTrue, IfOk};
 ghost use Rattle.lf_format.specs.Keeps.{HoldsSome};
 ghost use Rattle.lf_format.specs.Slots.{Holds, HoldsPresent};
@@ -22,8 +24,10 @@ pub enum Absent {
 /// that a present value is printed in quotes.
 #[derive(Debug, Drop)]
 pub struct Slot {
+    /// What the slot is called after its spelling, such as `%>s`; no line shows it.
     pub name: Str,
     pub kind: Kind,
+    /// How the letters of a value's plain text are written.
     pub code: Coding,
     pub absent: Absent,
     pub present: bool,

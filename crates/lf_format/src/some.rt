@@ -1,3 +1,5 @@
+//! Whether a domain has a value that isn't taken for absence.
+
 ghost use Rattle.std.specs.Prelude.{◌≡◌, ◌↔◌, ◌≤◌, ◌<◌, ℕ, List, [], IsTrue, IfSome, All};
 ghost use Rattle.lf_core.specs.declared.values.Value.TheVariants as value;
 ghost use Rattle.lf_domain.specs.Texts.{IsSized};

@@ -1,3 +1,5 @@
+//! The line of a record, written piece by piece.
+
 ghost use Rattle.std.specs.Prelude.{◌≡◌, ◌++◌, ◌↔◌, IsTrue, true, All, OnOk, OnErr};
 ghost use Rattle.lf_core.specs.Adds.{AddsFront};
 ghost use Rattle.lf_core.specs.declared.values.Value.{Value};

@@ -3,8 +3,8 @@ use Rattle.std.proofs.Common.{◌≡◌, ℕ, Bool, true, false, List, [], ◌�
 use Rattle.std.specs.Prelude.{◌==◌, if◌then◌else◌}
 use Rattle.lf_format.specs.declared.slot.Slot.{Slot}
 use Rattle.lf_spelling.specs.Items.{Item}
-use Rattle.lf_spelling.specs.declared.front.Given.{Given}
-use Rattle.lf_spelling.specs.declared.front.Given.TheVariants.{Byte}
+use Rattle.lf_spelling.specs.declared.item_reader.Given.{Given}
+use Rattle.lf_spelling.specs.declared.item_reader.Given.TheVariants.{Byte}
 use Rattle.apache_front.specs.Items as apache
 use Rattle.nginx_front.specs.Items as nginx
 use Rattle.nginx_front.specs.declared.table.Escape.{Escape}

@@ -8,7 +8,7 @@ use Rattle.lf_limits.specs.Limits.{most_text_bytes}
 use Rattle.lf_format.specs.Shape.{Shape}
 use Rattle.lf_format.specs.declared.format.LineEnd.{LineEnd}
 use Rattle.lf_spelling.specs.Items.{Item, Reading}
-use Rattle.lf_spelling.specs.Fronts.{IsFront}
+use Rattle.lf_spelling.specs.ItemReaders.{ReadsItems}
 use Rattle.lf_spelling.specs.Spelling as spelling
 use Rattle.lf_spelling.specs.declared.fault.Cause.{Cause}
 use Rattle.lf_spelling.proofs.KeepsLaws.{keeps_format}
@@ -29,7 +29,7 @@ use Rattle.lf_fronts.specs.Keeps.{IsFormat}
 use Rattle.lf_fronts.proofs.ByteLaws.{AreBytes, gives_byte, spelled_bytes, bytes_take, text_bytes}
 use Rattle.lf_fronts.proofs.ItemBytes.{of_apache, of_nginx, of_haproxy, of_envoy, of_fields}
 
-module _ {S : Type 0} (reading : S → List ℕ → Reading S) (item_is : S → Item S → List ℕ → Type 0) (fault_is : S → List ℕ → Cause → Type 0) (laws : IsFront reading item_is fault_is) (item_gives : (state : S) (item : Item S) (after : List ℕ) → item_is state item after → AreBytes item.bytes → gives_byte item.given ≡ true) where
+module _ {S : Type 0} (reading : S → List ℕ → Reading S) (item_is : S → Item S → List ℕ → Type 0) (fault_is : S → List ℕ → Cause → Type 0) (laws : ReadsItems reading item_is fault_is) (item_gives : (state : S) (item : Item S) (after : List ℕ) → item_is state item after → AreBytes item.bytes → gives_byte item.given ≡ true) where
   kept : (start : S) (end : LineEnd) (notes : Bool) (text : List ℕ) (format : Shape) → AreBytes text → length text ≤ most_text_bytes → spelling.Spells item_is start end notes text format → IsFormat format
   kept start end notes text format all short h = record {
     keeps = keeps_format reading item_is fault_is laws start text format.pieces short h.pieces;

@@ -4,7 +4,7 @@ use Rattle.std.proofs.lemmas.List.{take_at, length-take-le, take-append-drop, dr
 use Rattle.std.specs.Prelude.{Option, Some, None}
 use Rattle.lf_io.specs.Moves.{Takes, Gets}
 
--- The next n bytes of a text, written over the front of a buffer.
+-- The next n bytes of a text, written over the start of a buffer.
 pub moved : (text into piece : List ℕ) (at n : ℕ) → piece ≡ take n (drop at text) → n ≤ length (drop at text) → (n ≤ length (piece ++ drop n into)) × (drop at text ≡ take n (piece ++ drop n into) ++ drop (at + n) text)
 moved text into piece at n is fits =
     let len : length piece ≡ n = ap length is ∙ length-take-le n (drop at text) fits in

@@ -1,3 +1,4 @@
+-- The definitions of sources, sinks and their faults.
 pub mod Faults
 pub mod Moves
 pub mod Steps

@@ -15,12 +15,12 @@ Pulls old new into (pulled.Took n) = (1 ≤ n) × (n ≤ length into) × Takes o
 Pulls old new into pulled.End = IsAtEnd old × Takes old new []
 Pulls old new into pulled.Failed = Takes old new []
 
--- A push adds a byte or more of the piece's front.
+-- A push adds a byte or more of the piece's start.
 abbrev pub Pushes : Option (List ℕ) → Option (List ℕ) → List ℕ → Pushed → Type 0
 Pushes old new piece (pushed.Took n) = (1 ≤ n) × (n ≤ length piece) × Gets old new (take n piece)
 Pushes old new piece pushed.Failed = Gets old new []
 
--- All of the text was added, or a front of it.
+-- All of the text was added, or a prefix of it.
 abbrev pub Puts : Option (List ℕ) → Option (List ℕ) → List ℕ → Put → Type 0
 Puts old new text put.Done = Gets old new text
 Puts old new text put.Failed = (part : List ℕ) × BeginsWith text part × Gets old new part

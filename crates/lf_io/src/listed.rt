@@ -1,3 +1,5 @@
+//! Whether a call is listed to fail.
+
 ghost use Rattle.std.specs.Prelude.{◌↔◌, IsTrue, Contains};
 
 /// Whether the number of a call is listed.

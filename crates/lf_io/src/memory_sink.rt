@@ -1,3 +1,5 @@
+//! A list in memory as a sink that fails at listed calls.
+
 ghost use Rattle.std.specs.Prelude.{◌≡◌, ◌<◌, ◌≤◌, [], Some, IfOk, length};
 ghost use Rattle.lf_io.specs.Faults.{HasCause};
 ghost use Rattle.lf_io.specs.Steps.{Pushes};

@@ -1,3 +1,5 @@
+//! A text in memory as a source that fails at listed calls.
+
 ghost use Rattle.std.specs.Prelude.{◌≡◌, ◌<◌, ◌≤◌, Some, length};
 ghost use Rattle.lf_io.specs.Faults.{HasCause};
 ghost use Rattle.lf_io.specs.Steps.{Pulls};
@@ -28,6 +30,7 @@ impl Model for MemSource {
 }
 
 impl MemSource {
+    /// The text as a source, before its first call.
     pub fn new(text: Bytes, piece: usize, failing: Vec<u32>) -> MemSource
         requires { 1 ≤ piece }
         ensures { result ≡ record {

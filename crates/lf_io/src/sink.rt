@@ -1,3 +1,5 @@
+//! The trait of sinks, and how a whole text is put.
+
 ghost use Rattle.std.specs.Prelude.{◌≡◌, ℕ, List, Option, ◌<◌, length};
 ghost use Rattle.lf_io.specs.Faults.{HasCause};
 ghost use Rattle.lf_io.specs.Steps.{Pushes, Puts};
@@ -12,7 +14,9 @@ pub enum Pushed {
 /// Whether all of a text was put.
 #[derive(Clone, Copy, Debug, PartialEq, Eq)]
 pub enum Put {
+    /// The whole text was put.
     Done,
+    /// A push failed, and a prefix of the text was put.
     Failed,
 }
 

@@ -1,3 +1,5 @@
+//! The trait of sources.
+
 ghost use Rattle.std.specs.Prelude.{◌≡◌, ℕ, List, Option, ◌<◌, length};
 ghost use Rattle.lf_io.specs.Faults.{HasCause};
 ghost use Rattle.lf_io.specs.Steps.{Pulls};

@@ -1,3 +1,5 @@
+//! A source and a sink of which no call fails.
+
 ghost use Rattle.std.specs.Prelude.{◌≡◌, ◌<◌, ◌≤◌, Some, None, length};
 ghost use Rattle.lf_io.specs.Faults.{HasCause};
 ghost use Rattle.lf_io.specs.Steps.{Pulls, Pushes};
@@ -28,6 +30,7 @@ impl Model for SureSource {
 }
 
 impl SureSource {
+    /// The text as a source, all of it still to come.
     pub fn new(text: Bytes, piece: usize) -> SureSource
         requires { 1 ≤ piece }
         ensures { result ≡ record { left = text; piece = piece } }
@@ -64,6 +67,7 @@ impl Source for SureSource {
 pub struct SureSink;
 
 impl SureSink {
+    /// The sink, which tells no bytes.
     pub fn new() -> SureSink
         ensures got { ⟦<SureSink as Sink>⟧.got result ≡ None }
         ensures faults { ⟦<SureSink as Sink>⟧.faults result ≡ 0 }

@@ -1,3 +1,5 @@
+//! Streams of the system as sources and sinks.
+
 ghost use Rattle.std.specs.Prelude.{◌≡◌, ◌<◌, None, length};
 ghost use Rattle.lf_io.specs.Faults.{HasCause};
 ghost use Rattle.lf_io.specs.Steps.{Pulls, Pushes};
@@ -16,6 +18,7 @@ pub struct StdSource<R> {
 }
 
 impl<R: Read> StdSource<R> {
+    /// The stream as a source, with no fault counted.
     pub fn new(from: R) -> StdSource<R>
         ensures reader { reader result ≡ from }
         ensures faults { source_faults result ≡ 0 }
@@ -62,6 +65,7 @@ pub struct StdSink<W> {
 }
 
 impl<W: Write> StdSink<W> {
+    /// The stream as a sink, with no fault counted.
     pub fn new(to: W) -> StdSink<W>
         ensures writer { writer result ≡ to }
         ensures faults { sink_faults result ≡ 0 }

@@ -1,4 +1,4 @@
--- What was added is a front of what was to be added.
+-- What was added is a prefix of what was to be added.
 use Rattle.std.proofs.Common.{◌≡◌, ℕ, List, [], ◌++◌, sym, ap, ◌∙◌, append-nil, append_assoc}
 use Rattle.std.specs.Prelude.{Result, Ok, Err, OnErr}
 use Rattle.lf_core.specs.Adds.{AddsFront}
@@ -12,7 +12,7 @@ pub front_after : (old mid new a b : List ℕ) → mid ≡ old ++ a → AddsFron
 front_after old mid new a b e h =
     (a ++ h.0, h.1, ap (λ x. a ++ x) h.2 ∙ sym (append_assoc a h.0 h.1), h.3 ∙ ap (λ x. x ++ h.0) e ∙ append_assoc old a h.0)
 
--- A front of the whole was added, and the rest is still to be.
+-- A prefix of the whole was added, and the rest is still to be.
 pub record Leaves (old new whole rest : List ℕ) : Type 0 where
   pub done : List ℕ
   pub split : whole ≡ done ++ rest
@@ -31,7 +31,7 @@ pub leaves_none : (old new whole rest : List ℕ) → Leaves old new whole rest 
 leaves_none old new whole rest l e =
     l.added ∙ ap (λ x. old ++ x) (sym (append-nil l.done) ∙ ap (λ x. l.done ++ x) (sym e) ∙ sym l.split)
 
--- a front of the rest was added
+-- a prefix of the rest was added
 pub leaves_front : (old mid new whole rest : List ℕ) → Leaves old mid whole rest → AddsFront mid new rest → AddsFront old new whole
 leaves_front old mid new whole rest l f =
     let h = front_after old mid new l.done rest l.added f in

@@ -1,2 +1,3 @@
+-- The definitions of records as JSON, written and read.
 pub mod Text
 pub mod Reading

@@ -1,3 +1,4 @@
+//! Why a line of JSON is no record.
 ghost use Rattle.std.specs.Prelude.{◌≡◌};
 
 use lf_core::OutOfMemory;
@@ -15,6 +16,7 @@ pub enum BadRecord {
     /// The first slot, counted from 1, whose JSON value stands for no value that it holds.
     #[error("no value for slot {0}")]
     WrongValue(u32),
+    /// Memory ran out, and the line may be a record or not.
     #[error("out of memory")]
     OutOfMemory,
 }

@@ -3,6 +3,7 @@
 
 mod bad_record;
 mod items;
+/// Laws over the definitions: a line has one reading, and a record written is read back.
 pub mod laws;
 mod letters;
 mod reading;

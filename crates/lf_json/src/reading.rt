@@ -1,3 +1,4 @@
+//! Records read from lines of JSON.
 ghost use Rattle.std.specs.Prelude.{◌≡◌, ◌⊎◌, ◌+◌, ◌≤◌, length, map, IfOk, IfErr, OnOk};
 ghost use Rattle.lf_limits.specs.Limits.{most_slots};
 ghost use Rattle.serde_json.specs.View.{view};

@@ -14,7 +14,7 @@ use Rattle.lf_layout.specs.Places.{iso_date_places, clock_places, layout_places,
 use Rattle.lf_layout.specs.PlaceLaws.{run, accepts-run, points-stay}
 use Rattle.lf_layout.specs.FieldLaws.{IsField, relabelled, clock-field}
 use Rattle.lf_layout.specs.DateLaws.{iso-field}
-use Rattle.lf_layout.specs.LayoutLaws.{layout-field, moment-back, moments-apart}
+use Rattle.lf_layout.specs.LayoutLaws.{layout-field, moment-back, moments-distinct}
 use Rattle.lf_layout.specs.Readings.{date_at, second_at, moment_at}
 use Rattle.lf_layout.specs.ReadingLaws.{date-back, second-back}
 use Rattle.lf_layout.specs.declared.layout.DateForm.TheVariants.{Iso}
@@ -122,7 +122,7 @@ module _ (layout : Layout) (placed : IsPlaced (layout_places layout)) where
   moment-complete v h = absurd h
 
   moment-distinct : (v w : Value) → HoldsMoment layout v → HoldsMoment layout w → moment_text layout v ≡ moment_text layout w → v ≡ w
-  moment-distinct (a_moment m) (a_moment n) h g e = ap a_moment (moments-apart layout m n h g e)
+  moment-distinct (a_moment m) (a_moment n) h g e = ap a_moment (moments-distinct layout m n h g e)
   moment-distinct (a_moment m) w h g e = absurd g
   moment-distinct v w h g e = absurd h
 

@@ -320,5 +320,5 @@ module _ (layout : Layout) (m : Moment) (is : IsShown layout m) where
       ∙ seconds-parts m.seconds)
       millis-is offset-is
 
-pub moments-apart : (layout : Layout) (m n : Moment) → IsShown layout m → IsShown layout n → layout_text layout m ≡ layout_text layout n → m ≡ n
-moments-apart layout m n h g e = sym (moment-back layout m h) ∙ ap (moment_at layout) e ∙ moment-back layout n g
+pub moments-distinct : (layout : Layout) (m n : Moment) → IsShown layout m → IsShown layout n → layout_text layout m ≡ layout_text layout n → m ≡ n
+moments-distinct layout m n h g e = sym (moment-back layout m h) ∙ ap (moment_at layout) e ∙ moment-back layout n g

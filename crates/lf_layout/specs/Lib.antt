@@ -1,3 +1,4 @@
+-- The definitions and laws of the calendar, of layouts, and of the machine of their places.
 pub mod Calendar
 pub mod CalendarPromise
 pub mod Texts

@@ -53,7 +53,7 @@ offset-past Zulu xs ys n h = refl
 offset-past Compact xs ys n h = cc (letter-past xs ys n 1 (n + 1) h refl, number-past xs ys n 2 (n + 2) h refl, number-past xs ys n 4 (n + 4) h refl)
 offset-past Colon xs ys n h = cc (letter-past xs ys n 0 n h (omega arith), number-past xs ys n 1 (n + 1) h refl, number-past xs ys n 4 (n + 4) h refl)
 
--- each field at the front
+-- each field at the start
 
 year-back : (y : ℕ) → y ≤ 9999 → 100 * (10 * (48 + y / 100 / 10 - 48) + (48 + y / 100 % 10 - 48)) + (10 * (48 + y % 100 / 10 - 48) + (48 + y % 100 % 10 - 48)) ≡ y
 year-back y h = omega arith

@@ -19,6 +19,7 @@ fn is_leap(year: u32) -> bool
     (year % 4 == 0 && year % 100 != 0) || year % 400 == 0
 }
 
+/// How many days the month has, counted from 1, in a leap year or another.
 pub fn days_of_month(leap: bool, month: u32) -> u32
     ensures exact { result ≡ days_of_month_of leap month }
     ensures least { 28 ≤ result }

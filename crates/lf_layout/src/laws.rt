@@ -1,3 +1,5 @@
+//! Laws of the calendar, each the contract of a function that does nothing.
+
 ghost use Rattle.lf_layout.specs.CalendarPromise.{IsCalendar, IsJiffCalendar};
 
 /// Does nothing: its contract is the law that the days and the dates of the years 0001 to 9999 belong to

@@ -32,6 +32,7 @@ pub struct Layout {
     pub zone: Zone,
 }
 
+/// Whether the moment lies in the years 0001 to 9999, and its offset is under a day.
 pub fn is_moment(moment: &Moment) -> bool
     ensures { IsTrue result ↔ IsMoment moment.now }
 {

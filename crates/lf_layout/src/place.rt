@@ -9,14 +9,23 @@ use crate::names::{ending, going_on, starting};
 /// What a number of two digits is.
 #[derive(Clone, Copy, Debug, PartialEq, Eq)]
 pub enum Number {
+    /// 00 to 23.
     Hour,
+    /// 00 to 59: minutes, and seconds too.
     Minute,
+    /// The first two digits of a year.
     Century,
+    /// The last two digits of a year; the year 0000 is none.
     YearOfCentury,
+    /// 01 to 12, in a year that is known to be leap or not.
     Month,
+    /// A day of a month whose length is known.
     Day,
+    /// 01 to 31, before the month's name.
     NamedDay,
+    /// 00 to 23, after a sign.
     OffsetHour,
+    /// 00 to 59, and not 00 after a minus sign and the hour 00.
     OffsetMinute,
 }
 
@@ -26,9 +35,11 @@ pub enum Number {
 pub enum Place {
     Byte(u8, u32),
     Forget(u8, u32),
+    /// Any digit, which no memory keeps.
     Digit,
     Tens(u32),
     Ones(Number),
+    /// `+` or `-`, which is kept.
     Sign,
     NameFirst,
     NameSecond,

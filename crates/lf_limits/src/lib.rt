@@ -1,6 +1,7 @@
 //! The limits of the product, each named once as a number of the rules and once as a constant of the code.
 #![tactic(auto)]
 
+/// The constants of the code are the numbers of the rules.
 pub mod laws;
 mod limits;
 

@@ -1,3 +1,4 @@
+-- The definitions and laws of the marked machine of a format.
 pub mod Sums
 pub mod Runs
 pub mod Decoding

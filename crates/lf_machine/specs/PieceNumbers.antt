@@ -9,7 +9,7 @@ use Rattle.lf_format.specs.declared.slot.Slot.{Slot as ASlot}
 use Rattle.lf_format.specs.declared.format.Piece.{Piece}
 use Rattle.lf_format.specs.declared.format.Piece.TheVariants.{Literal, Slot}
 use Rattle.lf_machine.specs.Unquoted.{Within}
-use Rattle.lf_code_table.specs.Prefixes.{table-root, table-front, front-table}
+use Rattle.lf_code_table.specs.Prefixes.{table-root, table-prefix, prefix-table}
 use Rattle.lf_machine.specs.RowNumbers.{IsPart, AllParts}
 use Rattle.lf_machine.specs.RowMoves.{PartRises, AllRise, Numbering}
 use Rattle.lf_machine.specs.SlotMoves.{IsLaid, is_nil}
@@ -26,8 +26,8 @@ laid s =
     let c : IsCode (coding_takes s.code) (coding_word s.code) = coding_laws s.code in
     record {
       root = table-root (coding_takes s.code) (coding_word s.code) 256;
-      fronts = λ read b j h. elim (table-front (coding_takes s.code) (coding_word s.code) 256 (read ++ b ∷ []) (j, h)) [ inl e ↦ absurd (never-nil read b e) | inr f ↦ f ];
-      front = λ text post l x t e. front-table (coding_takes s.code) (coding_word s.code) 256 l x text post (c.bytes l t) t e;
+      fronts = λ read b j h. elim (table-prefix (coding_takes s.code) (coding_word s.code) 256 (read ++ b ∷ []) (j, h)) [ inl e ↦ absurd (never-nil read b e) | inr f ↦ f ];
+      front = λ text post l x t e. prefix-table (coding_takes s.code) (coding_word s.code) 256 l x text post (c.bytes l t) t e;
       bytes = c.bytes;
       begins = k.begins;
       stays = λ q l t h e. (k.stays q l t h e).1;

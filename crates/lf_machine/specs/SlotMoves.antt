@@ -9,7 +9,7 @@ use Rattle.lf_machine.specs.Letters.{At, inner, letter_step, CanStep, IsDone}
 use Rattle.lf_machine.specs.Lists.{none-there, one-there, there-one, Rises, rises-append, rises-guard}
 use Rattle.lf_code_table.specs.Table.{index_of, same_list}
 use Rattle.lf_machine.specs.LetterMoves.{letter_moves, one_letter, letter_move, letter-moves, letter-moved}
-use Rattle.lf_code_table.specs.Prefixes.{Has, index-there, IsFront}
+use Rattle.lf_code_table.specs.Prefixes.{Has, index-there, IsPrefix}
 use Rattle.lf_machine.specs.Numbered.{numbered}
 use Rattle.lf_machine.specs.SlotMachine.{SlotMachine}
 
@@ -66,7 +66,7 @@ module _ (sm : SlotMachine) where
   -- what a slot's machine and table keep
   pub record IsLaid : Type 0 where
     pub root : index_of sm.table [] ≡ Some 0
-    pub fronts : (read : List ℕ) (b j : ℕ) → index_of sm.table (read ++ b ∷ []) ≡ Some j → IsFront sm.takes sm.word (read ++ b ∷ [])
+    pub fronts : (read : List ℕ) (b j : ℕ) → index_of sm.table (read ++ b ∷ []) ≡ Some j → IsPrefix sm.takes sm.word (read ++ b ∷ [])
     pub front : (text post : List ℕ) (c x : ℕ) → sm.takes c ≡ true → sm.word c ≡ text ++ x ∷ post → Has sm.table text
     pub bytes : (c : ℕ) → sm.takes c ≡ true → c < 256
     pub begins : sm.first < sm.size

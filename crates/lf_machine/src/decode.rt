@@ -1,3 +1,5 @@
+//! The record that a run tells.
+
 ghost use Rattle.lf_limits.specs.Limits.{most_size};
 ghost use Rattle.std.specs.Prelude.{◌≡◌, ℕ, ◌-◌, ◌<◌, ◌≤◌, ◌^◌, ◌++◌, List, IfOk, OnOk, length, nat_le, take_while};
 ghost use Rattle.lf_core.specs.declared.values.Value.{Value};

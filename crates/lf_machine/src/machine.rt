@@ -1,3 +1,5 @@
+//! The machine of a format: its points, moves and ends.
+
 ghost use Rattle.lf_limits.specs.Limits.{most_size};
 ghost use Rattle.std.specs.Prelude.{◌≡◌, ◌<◌, ◌≤◌, ◌+◌, ◌++◌, IfOk, OnOk, drop, length};
 ghost use Rattle.lf_format.specs.Keeps.{EachKept};

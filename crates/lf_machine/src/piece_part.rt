@@ -1,3 +1,5 @@
+//! A piece as a part of its format's machine.
+
 ghost use Rattle.lf_limits.specs.Limits.{most_size};
 ghost use Rattle.std.specs.Prelude.{◌≡◌, ◌+◌, ◌<◌, ◌≤◌, ◌++◌, All, IfOk, OnOk, length, map};
 ghost use Rattle.lf_machine.specs.LineBytes.{IsByte, IsOfBytes};
@@ -7,12 +9,13 @@ ghost use Rattle.lf_machine.specs.Parted.{piece_of};
 ghost use Rattle.lf_machine.specs.Places.{IsNear, placed};
 
 use crate::place::{Moves, Place};
-use crate::slot_part::{SlotPart, is_none};
+use crate::slot_part::{SlotPart, is_empty_text};
 use lf_core::{Bytes, OutOfMemory};
 use lf_format::Piece;
 use std::alloc::Global;
 use std::marker::Model;
 
+/// What a part is of: the bytes of a literal, or a slot.
 #[derive(Drop)]
 pub enum Part {
     Literal(Bytes),
@@ -37,6 +40,7 @@ impl Model for PiecePart {
 }
 
 impl PiecePart {
+    /// The piece as a part, which copies it.
     pub fn of(alloc: Global, piece: &Piece) -> Result<PiecePart, OutOfMemory>
         requires { piece_count piece.now ≤ most_size }
         ensures ok { IfOk result (λ part. part ≡ piece.now) }
@@ -59,12 +63,14 @@ impl PiecePart {
         }
     }
 
+    /// What the part is of.
     pub fn part(&self) -> &Part
         ensures { piece_of result.now ≡ self.now }
     {
         &self.part
     }
 
+    /// How many points the part has.
     pub fn points(&self) -> u32
         ensures { result ≡ piece_count self.now }
     {
@@ -79,7 +85,7 @@ impl PiecePart {
         ensures { result ≡ piece_is_empty self.now }
     {
         match &self.part {
-            Part::Literal(text) => is_none(text.as_slice()),
+            Part::Literal(text) => is_empty_text(text.as_slice()),
             Part::Slot(slot) => slot.is_empty(),
         }
     }

@@ -1,3 +1,5 @@
+//! How a piece's moves stand among those of the line.
+
 ghost use Rattle.lf_machine.specs.Sums.{most_sum};
 ghost use Rattle.std.specs.Prelude.{◌≡◌, ◌++◌, ◌≤◌, [], OnOk, cond, false, map};
 ghost use Rattle.lf_machine.specs.Places.{IsNear, placed, aimed, one_move};
@@ -12,7 +14,9 @@ pub type Moves = SmallVec<Move, 4, Global>;
 /// What the marks and the points of a piece's moves are raised by.
 #[derive(Clone, Copy)]
 pub struct Place {
+    /// What marks are raised by.
     pub above: u32,
+    /// What points are raised by.
     pub base: u32,
 }
 

@@ -1,3 +1,5 @@
+//! Parts in a row: the moves into them and from their points.
+
 ghost use Rattle.lf_limits.specs.Limits.{most_size};
 ghost use Rattle.lf_machine.specs.Sums.{most_sum};
 ghost use Rattle.std.specs.Prelude.{◌≡◌, ◌+◌, ◌<◌, ◌≤◌, ◌^◌, ◌++◌, OnOk, length};

@@ -1,3 +1,5 @@
+//! A slot as a part of its format's machine.
+
 ghost use Rattle.lf_limits.specs.Limits.{most_size};
 ghost use Rattle.lf_machine.specs.Sums.{most_sum};
 ghost use Rattle.std.specs.Prelude.{◌≡◌, ◌+◌, ◌*◌, ◌/◌, ◌%◌, ◌<◌, ◌≤◌, ◌++◌, ◌∷◌, ◌==◌, ◌&&◌, [], IfOk, OnOk, cond, false, true, get_or, length, map};
@@ -42,6 +44,7 @@ impl Model for SlotPart {
 }
 
 impl SlotPart {
+    /// The slot as a part, which copies it and builds the table of its code.
     pub fn of(alloc: Global, slot: &Slot) -> Result<SlotPart, OutOfMemory>
         requires { slot_count slot.now.quoted slot.now ≤ most_size }
         ensures { IfOk result (λ part. part ≡ slot.now) }
@@ -52,12 +55,14 @@ impl SlotPart {
         Ok(SlotPart { slot, table, top })
     }
 
+    /// The slot that the part is of.
     pub fn slot(&self) -> &Slot
         ensures { result.now ≡ self.now }
     {
         &self.slot
     }
 
+    /// How many points the part has.
     pub fn points(&self) -> u32
         ensures { result ≡ slot_count self.now.quoted self.now }
     {
@@ -429,14 +434,14 @@ impl SlotPart {
         requires { point < slot_top self.now }
         ensures { result ≡ slot_root self.now point }
     {
-        let none = is_none(self.read_at(point));
+        let none = is_empty_text(self.read_at(point));
         let ends = self.slot.kind.ends(self.state(point));
         none & ends
     }
 }
 
 /// Whether the text is empty.
-pub fn is_none(text: &[u8]) -> bool
+pub fn is_empty_text(text: &[u8]) -> bool
     ensures { result ≡ is_nil text.now }
 {
     match text.split_first() {

@@ -1,3 +1,5 @@
+//! By point, the part that it is of.
+
 ghost use Rattle.lf_machine.specs.Sums.{most_sum};
 ghost use Rattle.std.specs.Prelude.{◌≡◌, ◌+◌, ◌<◌, ◌≤◌, ◌++◌, OnOk, length};
 ghost use Rattle.lf_machine.specs.LineMachine.{line_points};

@@ -7,7 +7,7 @@ use Rattle.lf_core.specs.Domain.{accepts, IsDomain}
 use Rattle.lf_core.specs.AcceptsLaws.{accepts-image, accepts-step, accepts-stop, map_option, IsImage}
 use Rattle.lf_number.specs.Digits.{ten, value-digits, value-other, minus-no_digit, digits-head}
 use Rattle.lf_number.specs.ReadingLaws.{num_laws}
-use Rattle.lf_number.specs.NumberLaws.{number_accepts, size-least, number-stays, below-zero, value-apart, zero-text}
+use Rattle.lf_number.specs.NumberLaws.{number_accepts, size-least, number-stays, below-zero, value-distinct, zero-text}
 use Rattle.lf_number.specs.Numbers.{decimal, is_negative, number_text, dash_text, number_size, dash_size, IsBetween, HoldsNumber, num_text}
 use Rattle.lf_number.specs.Machines.{value_after, exchanged, number_next, number_ends, dash_next, dash_machine}
 use Rattle.lf_core.specs.Choices.{option_cases}
@@ -128,4 +128,4 @@ module _ (lo hi : ℤ) (low : pos 0 ≤ℤ lo) where
   pub dash_laws : IsDomain (HoldsNumber lo hi) (num_text dash_text) (dash_machine lo hi) (dash_size lo hi)
   dash_laws =
       num_laws (IsBetween lo hi) dash_text (dash_machine lo hi) (dash_size lo hi)
-      (record { sound = dash-sound; complete = dash-complete }) (value-apart 10 dash_text dash-value lo hi low) (omega arith) dash-stays (omega arith)
+      (record { sound = dash-sound; complete = dash-complete }) (value-distinct 10 dash_text dash-value lo hi low) (omega arith) dash-stays (omega arith)

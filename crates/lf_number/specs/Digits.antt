@@ -1,3 +1,4 @@
+-- Laws of digits: the letters that they have, the numbers that they write, and how many a number has.
 use Rattle.std.proofs.Common.{◌≡◌, ℕ, zero, suc, ◌+◌, ◌-◌, ◌*◌, ◌/◌, ◌%◌, ◌<◌, ◌≤◌, ◌⊎◌, inl, inr, List, [], ◌∷◌, ◌++◌, Bool, true, false, cond, ltb, refl, sym, ap, ◌^◌, ◌∙◌, arith, length-append, append_assoc, lit≤}
 use Rattle.std.specs.Prelude.{replicate}
 use Rattle.std.proofs.Math.Nat.{pow-suc, pow-zero, one-mul, pow-le-pow_left, zero-div, zero-mod, div-eq_of_lt, mod-eq_of_lt}

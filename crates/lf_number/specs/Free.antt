@@ -4,9 +4,9 @@ use Rattle.std.proofs.lemmas.Bool.Decides.{nat_tests}
 use Rattle.std.proofs.lemmas.Bool.{ltb-true}
 use Rattle.std.proofs.lemmas.Option.{cond_some}
 use Rattle.lf_number.specs.Digits.{width-one, width-push, width-least}
-use Rattle.lf_number.specs.Sides.{side-first, side-next, side-most, side-whole, past-digits, next_side-most, push_side-most, three-most, three-push}
+use Rattle.lf_number.specs.Sides.{side-first, side-next, side-most, side-whole, past-digits, next_side-most, push_side-most, comparison-most, comparison-push}
 use Rattle.lf_number.specs.Numbers.{IsRadix, width}
-use Rattle.lf_number.specs.Machines.{front, three, side, push_side, next_side, whole_side, place, free_first, free_more, free_next, counted_place, counted_more, counted_next}
+use Rattle.lf_number.specs.Machines.{front, comparison, side, push_side, next_side, whole_side, place, free_first, free_more, free_next, counted_place, counted_more, counted_next}
 
 -- a place gives back its parts
 module _ (k a b : ℕ) (one : 1 ≤ k) (a_is : a ≤ 2) (b_is : b ≤ 2) where
@@ -59,10 +59,10 @@ module _ (r : ℕ) (is : IsRadix r) (a b : ℕ) where
   pub free-next : (p digit most : ℕ) → 0 < p → digit < r → free_next r most a b (free_place p) digit ≡ cond (ltb (width r p) most) (Some (free_place (p * r + digit))) None
   free-next p digit most h g = rw (free-count p, free-low p, free-high p, free-push p digit h g)
 
-  pub free-whole_low : (p : ℕ) → whole_side r a ((free_place p + 7) / 9) ((free_place p + 7) % 9 / 3) ≡ three p a
+  pub free-whole_low : (p : ℕ) → whole_side r a ((free_place p + 7) / 9) ((free_place p + 7) % 9 / 3) ≡ comparison p a
   free-whole_low p = rw (free-count p, free-low p) (side-whole r is a p)
 
-  pub free-whole_high : (p : ℕ) → whole_side r b ((free_place p + 7) / 9) ((free_place p + 7) % 3) ≡ three p b
+  pub free-whole_high : (p : ℕ) → whole_side r b ((free_place p + 7) / 9) ((free_place p + 7) % 3) ≡ comparison p b
   free-whole_high p = rw (free-count p, free-high p) (side-whole r is b p)
 
 guarded_none : (c : Bool) (n after : ℕ) → cond c None (Some n) ≡ Some after → n ≡ after
@@ -94,7 +94,7 @@ module _ (r a b : ℕ) where
 
   -- Digits whose number is known: how the number so far stands to the first digits of the bounds.
   abbrev pub counted_at : ℕ → ℕ → ℕ
-  counted_at rest q = counted_place rest (three q (front r a rest)) (three q (front r b rest))
+  counted_at rest q = counted_place rest (comparison q (front r a rest)) (comparison q (front r b rest))
 
 -- a place gives back its parts
 module _ (rest a b : ℕ) (a_is : a ≤ 2) (b_is : b ≤ 2) where
@@ -112,17 +112,17 @@ module _ (rest a b : ℕ) (a_is : a ≤ 2) (b_is : b ≤ 2) where
 
 module _ (r a b base : ℕ) where
   pub counted-done : (q digit : ℕ) → counted_next r a b base (counted_at r a b 0 q) digit ≡ None
-  counted-done q digit = rw (counted-rest 0 (three q a) (three q b) (three-most q a) (three-most q b))
+  counted-done q digit = rw (counted-rest 0 (comparison q a) (comparison q b) (comparison-most q a) (comparison-most q b))
 
   pub counted-next : (rest q digit : ℕ) → digit < r → counted_next r a b base (counted_at r a b (suc rest) q) digit ≡ Some (base + counted_at r a b rest (q * r + digit))
   counted-next rest q digit h =
-      let s = three q (front r a (suc rest)) in
-      let t = three q (front r b (suc rest)) in
-      let sm = three-most q (front r a (suc rest)) in
-      let tm = three-most q (front r b (suc rest)) in
+      let s = comparison q (front r a (suc rest)) in
+      let t = comparison q (front r b (suc rest)) in
+      let sm = comparison-most q (front r a (suc rest)) in
+      let tm = comparison-most q (front r b (suc rest)) in
       let e : suc rest - 1 ≡ rest = omega arith in
       let z : (suc rest == 0) ≡ false = grind (arith, nat_tests) in
-      rw (counted-rest (suc rest) s t sm tm, counted-low (suc rest) s t sm tm, counted-high (suc rest) s t sm tm, z, e, three-push r q digit (front r a rest) h, three-push r q digit (front r b rest) h)
+      rw (counted-rest (suc rest) s t sm tm, counted-low (suc rest) s t sm tm, counted-high (suc rest) s t sm tm, z, e, comparison-push r q digit (front r a rest) h, comparison-push r q digit (front r b rest) h)
 
   pub counted_next-most : (at digit after top : ℕ) → at < 9 * (top + 1) → counted_next r a b base at digit ≡ Some after → after < base + 9 * (top + 1)
   counted_next-most at digit after top h e =

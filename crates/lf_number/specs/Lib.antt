@@ -1,3 +1,4 @@
+-- The definitions and laws of the domains of whole numbers.
 pub mod Numbers
 pub mod Machines
 pub mod Digits

@@ -19,16 +19,16 @@ front r m zero = m
 front r m (suc j) = front r m j / r
 
 -- 0, 1 and 2 for less, equal and greater
-abbrev pub three : ℕ → ℕ → ℕ
-three p q = cond (ltb p q) 0 (cond (ltb q p) 2 1)
+abbrev pub comparison : ℕ → ℕ → ℕ
+comparison p q = cond (ltb p q) 0 (cond (ltb q p) 2 1)
 
 -- how the first k digits, whose number is p, stand to the first k digits of m; past its digits p is greater
 abbrev pub side : ℕ → ℕ → ℕ → ℕ → ℕ
-side r m k p = three p (front r m (width r m - k))
+side r m k p = comparison p (front r m (width r m - k))
 
 -- how a number stands to another, after one digit more of both
 abbrev pub push_side : ℕ → ℕ → ℕ → ℕ
-push_side how digit other = cond (how == 1) (three digit other) how
+push_side how digit other = cond (how == 1) (comparison digit other) how
 
 -- how the digits so far stand to the first digits of m, after one digit more
 abbrev pub next_side : ℕ → ℕ → ℕ → ℕ → ℕ → ℕ
@@ -109,7 +109,7 @@ number_done lo hi negative at =
     cond (at == 0)
     false
     (cond (at == 1)
-    (in_range lo hi negative (three 0 (magnitude lo)) (three 0 (magnitude hi)))
+    (in_range lo hi negative (comparison 0 (magnitude lo)) (comparison 0 (magnitude hi)))
     (in_range lo hi negative
     (whole_side 10 (magnitude lo) ((at + 7) / 9) ((at + 7) % 9 / 3))
     (whole_side 10 (magnitude hi) ((at + 7) / 9) ((at + 7) % 3))))
@@ -170,7 +170,7 @@ thousandths_point lo hi at =
     cond (at == 0)
     None
     (cond (at == 1)
-    (Some ((9 * whole_digits hi + 2) + counted_place 3 (three 0 (magnitude lo / 1000)) (three 0 (magnitude hi / 1000))))
+    (Some ((9 * whole_digits hi + 2) + counted_place 3 (comparison 0 (magnitude lo / 1000)) (comparison 0 (magnitude hi / 1000))))
     (cond (ltb at (9 * whole_digits hi + 2))
     (Some ((9 * whole_digits hi + 2) + counted_place 3
     (whole_side 10 (magnitude lo / 1000) ((at + 7) / 9) ((at + 7) % 9 / 3))
@@ -201,8 +201,8 @@ abbrev pub padded_zero : ℕ → ℕ → ℤ → ℤ → ℕ
 padded_zero r least lo hi =
     (9 * padded_digits r least hi + 2)
     + counted_place (least - 1)
-    (three 0 (front r (magnitude lo) (least - 1)))
-    (three 0 (front r (magnitude hi) (least - 1)))
+    (comparison 0 (front r (magnitude lo) (least - 1)))
+    (comparison 0 (front r (magnitude hi) (least - 1)))
 
 abbrev pub padded_next : ℕ → ℕ → ℤ → ℤ → ℕ → ℕ → Option ℕ
 padded_next r least lo hi at letter =

@@ -4,11 +4,11 @@ use Rattle.std.specs.Prelude.{ℤ}
 use Rattle.std.proofs.lemmas.Bool.Decides.{nat_tests}
 use Rattle.std.proofs.lemmas.Bool.{cases_Bool, lt-ltb}
 use Rattle.lf_core.specs.AcceptsLaws.{map_option}
-use Rattle.lf_number.specs.Sides.{three-most}
+use Rattle.lf_number.specs.Sides.{comparison-most}
 use Rattle.lf_number.specs.Free.{free_place, free-first, free-next, free-least, free-most, counted_at, counted-rest, counted-low, counted-high, counted-next, counted-done, free_first-most, free_next-most, counted_next-most}
 use Rattle.lf_number.specs.NumberLaws.{place-apart, none_some}
 use Rattle.lf_number.specs.Numbers.{IsRadix, width}
-use Rattle.lf_number.specs.Machines.{front, three, in_range, free_first, counted_next, mixed_digit, counted_done}
+use Rattle.lf_number.specs.Machines.{front, comparison, in_range, free_first, counted_next, mixed_digit, counted_done}
 use Rattle.lf_core.specs.Choices.{below, unwrap}
 
 -- what was read so far: nothing, a lone zero, the free digits of a number, and so many counted digits
@@ -119,8 +119,8 @@ under_test point false x y u v h g = g refl
 
 -- whether a number ends where its digits are counted
 module _ (lo hi : ℤ) (r a b rest q : ℕ) where
-  pub done-at : counted_done lo hi (counted_at r a b rest q) ≡ cond (rest == 0) (in_range lo hi false (three q (front r a rest)) (three q (front r b rest))) false
+  pub done-at : counted_done lo hi (counted_at r a b rest q) ≡ cond (rest == 0) (in_range lo hi false (comparison q (front r a rest)) (comparison q (front r b rest))) false
   done-at =
-      let s = three-most q (front r a rest) in
-      let t = three-most q (front r b rest) in
-      rw (counted-rest rest (three q (front r a rest)) (three q (front r b rest)) s t, counted-low rest (three q (front r a rest)) (three q (front r b rest)) s t, counted-high rest (three q (front r a rest)) (three q (front r b rest)) s t)
+      let s = comparison-most q (front r a rest) in
+      let t = comparison-most q (front r b rest) in
+      rw (counted-rest rest (comparison q (front r a rest)) (comparison q (front r b rest)) s t, counted-low rest (comparison q (front r a rest)) (comparison q (front r b rest)) s t, counted-high rest (comparison q (front r a rest)) (comparison q (front r b rest)) s t)

@@ -1,3 +1,4 @@
+-- Numbers in decimal: a reading of a sign and digits accepts exactly the texts of those in the range.
 use Rattle.std.proofs.Common.{◌≡◌, ℕ, zero, suc, ◌+◌, ◌-◌, ◌*◌, ◌/◌, ◌%◌, ◌<◌, ◌≤◌, ◌⊎◌, inl, inr, List, [], ◌∷◌, ◌++◌, Option, None, Some, Bool, true, false, cond, not, ltb, ◌==◌, ◌&&◌, refl, sym, ap, subst, ◌∙◌, arith, append_assoc, add-zero}
 use Rattle.std.specs.Prelude.{ℤ, pos, negsuc, ◌≤ℤ◌}
 use Rattle.std.proofs.lemmas.Int.{ints}
@@ -12,7 +13,7 @@ use Rattle.lf_number.specs.Free.{free_place, free-first, free-next, free-least, 
 use Rattle.lf_number.specs.Range.{range-pos, pos-range, range-neg, neg-range}
 use Rattle.lf_number.specs.ReadingLaws.{IsReading, AcceptsNumbers, reading_accepts, num_laws}
 use Rattle.lf_number.specs.Numbers.{digit_letter, digit_of, decimal, width, magnitude, is_negative, number_text, most_digits, half_points, number_size, IsBetween, HoldsNumber, num_text}
-use Rattle.lf_number.specs.Machines.{value_after, three, in_range, shifted, free_first, free_next, number_first, number_digit, number_next, number_done, number_ends, number_machine}
+use Rattle.lf_number.specs.Machines.{value_after, comparison, in_range, shifted, free_first, free_next, number_first, number_digit, number_next, number_done, number_ends, number_machine}
 use Rattle.lf_core.specs.Choices.{below, unwrap}
 
 -- what was read so far of a number with a sign
@@ -83,8 +84,8 @@ module _ (lo hi : ℤ) where
 
   abbrev is_read : Reading → Bool
   is_read (begun negative) = false
-  is_read lone_zero = in_range lo hi false (three 0 (magnitude lo)) (three 0 (magnitude hi))
-  is_read (whole negative p) = in_range lo hi negative (three p (magnitude lo)) (three p (magnitude hi))
+  is_read lone_zero = in_range lo hi false (comparison 0 (magnitude lo)) (comparison 0 (magnitude hi))
+  is_read (whole negative p) = in_range lo hi negative (comparison p (magnitude lo)) (comparison p (magnitude hi))
 
   abbrev Signed : Bool → Type 0
   Signed false = Unit {0}
@@ -360,8 +361,8 @@ below-zero lo k l h = omega (arith, ints)
 
 -- two numbers have two texts
 
-decimal-apart : (n m : ℕ) → decimal n ≡ decimal m → n ≡ m
-decimal-apart n m e = sym (value-digits 10 ten n) ∙ ap (value_after 10 0) e ∙ value-digits 10 ten m
+decimal-distinct : (n m : ℕ) → decimal n ≡ decimal m → n ≡ m
+decimal-distinct n m e = sym (value-digits 10 ten n) ∙ ap (value_after 10 0) e ∙ value-digits 10 ten m
 
 no-minus : (n : ℕ) (tail : List ℕ) → decimal n ≡ 45 ∷ tail → ⊥
 no-minus n tail e =
@@ -371,20 +372,20 @@ no-minus n tail e =
     let g = r.3 in
     omega arith
 
-pub number-apart : (a b : ℤ) → number_text a ≡ number_text b → a ≡ b
-number-apart (pos n) (pos m) e = ap pos (decimal-apart n m e)
-number-apart (pos n) (negsuc m) e = absurd (no-minus n (decimal (suc m)) e)
-number-apart (negsuc n) (pos m) e = absurd (no-minus m (decimal (suc n)) (sym e))
-number-apart (negsuc n) (negsuc m) e =
+pub number-distinct : (a b : ℤ) → number_text a ≡ number_text b → a ≡ b
+number-distinct (pos n) (pos m) e = ap pos (decimal-distinct n m e)
+number-distinct (pos n) (negsuc m) e = absurd (no-minus n (decimal (suc m)) e)
+number-distinct (negsuc n) (pos m) e = absurd (no-minus m (decimal (suc n)) (sym e))
+number-distinct (negsuc n) (negsuc m) e =
     let q : decimal (suc n) ≡ decimal (suc m) = cc in
-    let z = decimal-apart (suc n) (suc m) q in
+    let z = decimal-distinct (suc n) (suc m) q in
     cc
 
 -- so have two that are not negative, where a text gives back its number
-pub value-apart : (r : ℕ) (f : ℤ → List ℕ) → ((k : ℕ) → value_after r 0 (f (pos k)) ≡ k) → (lo hi : ℤ) → pos 0 ≤ℤ lo → (n m : ℤ) → IsBetween lo hi n → IsBetween lo hi m → f n ≡ f m → n ≡ m
-value-apart r f back lo hi low (pos n) (pos m) h g e = ap pos (sym (back n) ∙ ap (value_after r 0) e ∙ back m)
-value-apart r f back lo hi low (pos n) (negsuc m) h g e = absurd (below-zero lo m low g.0)
-value-apart r f back lo hi low (negsuc n) m h g e = absurd (below-zero lo n low h.0)
+pub value-distinct : (r : ℕ) (f : ℤ → List ℕ) → ((k : ℕ) → value_after r 0 (f (pos k)) ≡ k) → (lo hi : ℤ) → pos 0 ≤ℤ lo → (n m : ℤ) → IsBetween lo hi n → IsBetween lo hi m → f n ≡ f m → n ≡ m
+value-distinct r f back lo hi low (pos n) (pos m) h g e = ap pos (sym (back n) ∙ ap (value_after r 0) e ∙ back m)
+value-distinct r f back lo hi low (pos n) (negsuc m) h g e = absurd (below-zero lo m low g.0)
+value-distinct r f back lo hi low (negsuc n) m h g e = absurd (below-zero lo n low h.0)
 
 pub none_some : (a : ℕ) → None ≡ Some a → ⊥
 none_some a e = cc
@@ -465,5 +466,5 @@ module _ (lo hi : ℤ) where
 pub number_laws : (lo hi : ℤ) → IsDomain (HoldsNumber lo hi) (num_text number_text) (number_machine lo hi) (number_size lo hi)
 number_laws lo hi =
     num_laws (IsBetween lo hi) number_text (number_machine lo hi) (number_size lo hi) (number_accepts lo hi)
-    (λ n m _ _ e. number-apart n m e) (size-least lo hi 0 (omega arith))
+    (λ n m _ _ e. number-distinct n m e) (size-least lo hi 0 (omega arith))
     (λ at c t h e. let s = number-stays lo hi at c t h e in (s.0, s.1)) (omega arith)

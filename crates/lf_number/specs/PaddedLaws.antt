@@ -9,14 +9,14 @@ use Rattle.std.proofs.lemmas.Option.{cond_some}
 use Rattle.lf_core.specs.Domain.{IsDomain}
 use Rattle.lf_core.specs.AcceptsLaws.{map_option, IsImage, guarded}
 use Rattle.lf_number.specs.Digits.{letter-is, digit-taken, digit-byte, digits-one, digits-push, width-one, width-more, width-push, width-least, width-rises, quotient-positive, rest-below, push-least, front-quotient, front-push, front-none, front-zero, none-front, last-push, last-padded, value-digits, value-zeros, value_after-append}
-use Rattle.lf_number.specs.Sides.{three-most}
+use Rattle.lf_number.specs.Sides.{comparison-most}
 use Rattle.lf_number.specs.Free.{free-least, free-count, free-whole_low, free-whole_high, counted_at, counted-most}
 use Rattle.lf_number.specs.Range.{range-pos, pos-range}
 use Rattle.lf_number.specs.Mixed.{Reading, begun, lone_zero, whole, counted, point, read_digit, IsFree, digit-goes, free-below, mixed-most, under_test, done-at}
 use Rattle.lf_number.specs.ReadingLaws.{IsReading, AcceptsNumbers, reading_accepts, num_laws}
-use Rattle.lf_number.specs.NumberLaws.{place-apart, below-magnitude, below-zero, value-apart, cond-true, not_zero, is_zero, guarded_true}
+use Rattle.lf_number.specs.NumberLaws.{place-apart, below-magnitude, below-zero, value-distinct, cond-true, not_zero, is_zero, guarded_true}
 use Rattle.lf_number.specs.Numbers.{IsRadix, digit_letter, digit_of, digits, width, magnitude, last_digits, padded_text, padded_digits, padded_size, IsBetween, HoldsNumber, num_text}
-use Rattle.lf_number.specs.Machines.{value_after, front, three, in_range, mixed_digit, counted_done, padded_zero, padded_next, padded_ends, padded_machine}
+use Rattle.lf_number.specs.Machines.{value_after, front, comparison, in_range, mixed_digit, counted_done, padded_zero, padded_next, padded_ends, padded_machine}
 use Rattle.lf_core.specs.Choices.{below, unwrap}
 
 at_least : (least k : ℕ) → least ≤ k → leb least k ≡ true
@@ -55,12 +55,12 @@ module _ (r : ℕ) (is : IsRadix r) (least : ℕ) (lo hi : ℤ) where
 
   abbrev ends_counted : ℕ → ℕ → Bool
   ends_counted done q =
-      cond (top - done == 0) (in_range lo hi false (three q (front r (magnitude lo) (top - done))) (three q (front r (magnitude hi) (top - done)))) false
+      cond (top - done == 0) (in_range lo hi false (comparison q (front r (magnitude lo) (top - done))) (comparison q (front r (magnitude hi) (top - done)))) false
 
   abbrev is_read : Reading → Bool
   is_read begun = false
   is_read lone_zero = false
-  is_read (whole p) = cond (leb least (width r p)) (in_range lo hi false (three p (magnitude lo)) (three p (magnitude hi))) false
+  is_read (whole p) = cond (leb least (width r p)) (in_range lo hi false (comparison p (magnitude lo)) (comparison p (magnitude hi))) false
   is_read (counted done q) = ends_counted done q
 
   abbrev CanRead : Reading → Type 0
@@ -234,14 +234,14 @@ module _ (r : ℕ) (is : IsRadix r) (least : ℕ) (lo hi : ℤ) where
   abbrev Told : ℕ → ℕ → Type 0
   Told q done = (n : ℤ) × IsBetween lo hi n × (padded_text r least n ≡ last_digits r done q)
 
-  tells-all : (q : ℕ) → width r q ≤ top → (x : ℕ) → x ≡ 0 → in_range lo hi false (three q (front r (magnitude lo) x)) (three q (front r (magnitude hi) x)) ≡ true → Told q top
+  tells-all : (q : ℕ) → width r q ≤ top → (x : ℕ) → x ≡ 0 → in_range lo hi false (comparison q (front r (magnitude lo) x)) (comparison q (front r (magnitude hi) x)) ≡ true → Told q top
   tells-all q w x z e =
-      let f = subst (λ (y : ℕ). in_range lo hi false (three q (front r (magnitude lo) y)) (three q (front r (magnitude hi) y)) ≡ true) z e in
+      let f = subst (λ (y : ℕ). in_range lo hi false (comparison q (front r (magnitude lo) y)) (comparison q (front r (magnitude hi) y)) ≡ true) z e in
       (pos q, range-pos lo hi q f, text-counted q w)
 
   tells-counted : (done q : ℕ) → CanRead (counted (suc done) q) → ends_counted (suc done) q ≡ true → Told q (suc done)
   tells-counted done q h e =
-      let g = guarded_true (top - suc done == 0) (in_range lo hi false (three q (front r (magnitude lo) (top - suc done))) (three q (front r (magnitude hi) (top - suc done)))) e in
+      let g = guarded_true (top - suc done == 0) (in_range lo hi false (comparison q (front r (magnitude lo) (top - suc done))) (comparison q (front r (magnitude hi) (top - suc done)))) e in
       let z : top - suc done ≡ 0 = is_zero (top - suc done) g.0 in
       let d : least - 1 ≡ done = omega (arith, h.0) in
       let w : width r q ≤ top = omega (arith, none-front r is done q h.1) in
@@ -251,7 +251,7 @@ module _ (r : ℕ) (is : IsRadix r) (least : ℕ) (lo hi : ℤ) where
   tells begun h e = cc
   tells lone_zero h e = absurd h
   tells (whole p) h e =
-      let g = guarded_true (leb least (width r p)) (in_range lo hi false (three p (magnitude lo)) (three p (magnitude hi))) e in
+      let g = guarded_true (leb least (width r p)) (in_range lo hi false (comparison p (magnitude lo)) (comparison p (magnitude hi))) e in
       (pos p, range-pos lo hi p g.1, text-whole p (from_least least (width r p) g.0))
   tells (counted zero q) h e = absurd h
   tells (counted (suc done) q) h e = tells-counted done q h e
@@ -263,7 +263,7 @@ module _ (r : ℕ) (is : IsRadix r) (least : ℕ) (lo hi : ℤ) where
   told-counted : (k : ℕ) → IsBetween lo hi (pos k) → width r k ≤ top → front r k (least - 1) ≡ 0 → Shows k
   told-counted k h w f =
       let z : top - top ≡ 0 = omega arith in
-      let e : ends_counted top k ≡ true = ap (λ (x : ℕ). cond (x == 0) (in_range lo hi false (three k (front r (magnitude lo) x)) (three k (front r (magnitude hi) x))) false) z ∙ pos-range lo hi k h.0 h.1 in
+      let e : ends_counted top k ≡ true = ap (λ (x : ℕ). cond (x == 0) (in_range lo hi false (comparison k (front r (magnitude lo) x)) (comparison k (front r (magnitude hi) x))) false) z ∙ pos-range lo hi k h.0 h.1 in
       (counted top k, (omega arith, f), e, sym (text-counted k w))
 
   told-whole : (k : ℕ) → IsBetween lo hi (pos k) → 0 < k → least ≤ width r k → Shows k
@@ -271,7 +271,7 @@ module _ (r : ℕ) (is : IsRadix r) (least : ℕ) (lo hi : ℤ) where
       let b = below-magnitude hi k h.1 in
       let m = width-rises r is (magnitude hi) k b in
       let t : leb least (width r k) ≡ true = at_least least (width r k) w in
-      let e : is_read (whole k) ≡ true = cond-true (leb least (width r k)) (in_range lo hi false (three k (magnitude lo)) (three k (magnitude hi))) false t ∙ pos-range lo hi k h.0 h.1 in
+      let e : is_read (whole k) ≡ true = cond-true (leb least (width r k)) (in_range lo hi false (comparison k (magnitude lo)) (comparison k (magnitude hi))) false t ∙ pos-range lo hi k h.0 h.1 in
       (whole k, (n, omega arith), e, sym (text-whole k w))
 
   told-positive : (k : ℕ) → IsBetween lo hi (pos k) → Shows k
@@ -286,7 +286,7 @@ module _ (r : ℕ) (is : IsRadix r) (least : ℕ) (lo hi : ℤ) where
 
   zero-below : padded_zero r least lo hi < padded_size r least hi
   zero-below =
-      let m = counted-most (least - 1) (three 0 (front r (magnitude lo) (least - 1))) (three 0 (front r (magnitude hi) (least - 1))) (three-most 0 (front r (magnitude lo) (least - 1))) (three-most 0 (front r (magnitude hi) (least - 1))) (padded_digits r least hi - 1) (omega arith) in
+      let m = counted-most (least - 1) (comparison 0 (front r (magnitude lo) (least - 1))) (comparison 0 (front r (magnitude hi) (least - 1))) (comparison-most 0 (front r (magnitude lo) (least - 1))) (comparison-most 0 (front r (magnitude hi) (least - 1))) (padded_digits r least hi - 1) (omega arith) in
       omega (arith, m, most-least)
 
   padded-stays : (at letter after : ℕ) → at < padded_size r least hi → padded_next r least lo hi at letter ≡ Some after → (letter < 256) × (after < padded_size r least hi)
@@ -311,4 +311,4 @@ module _ (r : ℕ) (is : IsRadix r) (least : ℕ) (lo hi : ℤ) where
     pub padded_laws : IsDomain (HoldsNumber lo hi) (num_text (padded_text r least)) (padded_machine r least lo hi) (padded_size r least hi)
     padded_laws =
         num_laws (IsBetween lo hi) (padded_text r least) (padded_machine r least lo hi) (padded_size r least hi)
-        padded_accepts (value-apart r (padded_text r least) (padded-value r is least) lo hi low) (omega arith) padded-stays (omega arith)
+        padded_accepts (value-distinct r (padded_text r least) (padded-value r is least) lo hi low) (omega arith) padded-stays (omega arith)

@@ -1,3 +1,4 @@
+-- The radix of padded numbers, as a number.
 use Rattle.std.specs.Prelude.{ℕ}
 use Rattle.lf_number.specs.declared.padded.Radix.{Radix}
 use Rattle.lf_number.specs.declared.padded.Radix.TheVariants.{Ten, Sixteen}

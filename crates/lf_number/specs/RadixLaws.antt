@@ -1,3 +1,4 @@
+-- The digits of each radix of padded numbers have letters.
 use Rattle.std.proofs.Common.{arith}
 use Rattle.lf_number.specs.declared.padded.Radix.{Radix}
 use Rattle.lf_number.specs.declared.padded.Radix.TheVariants.{Ten, Sixteen}

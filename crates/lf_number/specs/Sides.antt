@@ -1,43 +1,44 @@
+-- How the digits of a number stand to those of a bound, digit by digit.
 use Rattle.std.proofs.Common.{◌≡◌, ℕ, suc, ◌+◌, ◌-◌, ◌*◌, ◌/◌, ◌%◌, ◌<◌, ◌≤◌, inl, inr, Bool, true, false, cond, ◌==◌, sym, ap, ◌∙◌, arith}
 use Rattle.std.proofs.lemmas.Nat.{div-add-mod', row_fits}
 use Rattle.std.proofs.lemmas.Bool.Decides.{nat_tests}
 use Rattle.lf_number.specs.Digits.{width-push, width-least, width-rises, front-all}
 use Rattle.lf_number.specs.Numbers.{IsRadix, width}
-use Rattle.lf_number.specs.Machines.{front, three, side, push_side, next_side, whole_side}
+use Rattle.lf_number.specs.Machines.{front, comparison, side, push_side, next_side, whole_side}
 use Rattle.lf_core.specs.Choices.{below}
 
-pub three-greater : (p q : ℕ) → q < p → three p q ≡ 2
-three-greater p q h = grind (arith, nat_tests)
+pub comparison-greater : (p q : ℕ) → q < p → comparison p q ≡ 2
+comparison-greater p q h = grind (arith, nat_tests)
 
-pub three-most : (p q : ℕ) → three p q ≤ 2
-three-most p q = grind (arith, nat_tests)
+pub comparison-most : (p q : ℕ) → comparison p q ≤ 2
+comparison-most p q = grind (arith, nat_tests)
 
-pub three-less : (p q : ℕ) → p < q → three p q ≡ 0
-three-less p q h = grind (arith, nat_tests)
+pub comparison-less : (p q : ℕ) → p < q → comparison p q ≡ 0
+comparison-less p q h = grind (arith, nat_tests)
 
-pub three-same : (p : ℕ) → three p p ≡ 1
-three-same p = grind (arith, nat_tests)
+pub comparison-same : (p : ℕ) → comparison p p ≡ 1
+comparison-same p = grind (arith, nat_tests)
 
-three-moved : (m d e : ℕ) → three d e ≡ three (m + d) (m + e)
-three-moved m d e = grind (arith, nat_tests)
+comparison-moved : (m d e : ℕ) → comparison d e ≡ comparison (m + d) (m + e)
+comparison-moved m d e = grind (arith, nat_tests)
 
 -- the comparison after one more digit of both numbers
-pub three-push : (r p digit q : ℕ) → digit < r → push_side (three p (q / r)) digit (q % r) ≡ three (p * r + digit) q
-three-push r p digit q h =
+pub comparison-push : (r p digit q : ℕ) → digit < r → push_side (comparison p (q / r)) digit (q % r) ≡ comparison (p * r + digit) q
+comparison-push r p digit q h =
     let whole : q / r * r + q % r ≡ q = div-add-mod' q r in
     let few : q % r < r = omega arith in
     elim (below p (q / r)) [
       | inl t ↦
           let f : p * r + r ≤ q / r * r = row_fits p r (q / r) r t.1 (omega arith) in
-          rw (three-less p (q / r) t.1) (sym (three-less (p * r + digit) q (omega arith)))
+          rw (comparison-less p (q / r) t.1) (sym (comparison-less (p * r + digit) q (omega arith)))
       | inr t ↦
           elim (below (q / r) p) [
             | inl s ↦
                 let f : q / r * r + r ≤ p * r = row_fits (q / r) r p r s.1 (omega arith) in
-                rw (three-greater p (q / r) s.1) (sym (three-greater (p * r + digit) q (omega arith)))
+                rw (comparison-greater p (q / r) s.1) (sym (comparison-greater (p * r + digit) q (omega arith)))
             | inr s ↦
                 let e : q / r ≡ p = omega (arith, t.1, s.1) in
-                rw (e, three-same p) (three-moved (p * r) digit (q % r) ∙ ap (λ (m : ℕ). three (p * r + digit) m) (ap (λ (x : ℕ). x * r + q % r) (sym e) ∙ whole))
+                rw (e, comparison-same p) (comparison-moved (p * r) digit (q % r) ∙ ap (λ (m : ℕ). comparison (p * r + digit) m) (ap (λ (x : ℕ). x * r + q % r) (sym e) ∙ whole))
           ]
     ]
 
@@ -46,10 +47,10 @@ chosen true x y h g = h
 chosen false x y h g = g
 
 pub push_side-most : (how digit other : ℕ) → how ≤ 2 → push_side how digit other ≤ 2
-push_side-most how digit other h = chosen (how == 1) (three digit other) how (three-most digit other) h
+push_side-most how digit other h = chosen (how == 1) (comparison digit other) how (comparison-most digit other) h
 
 pub side-most : (r m k p : ℕ) → side r m k p ≤ 2
-side-most r m k p = three-most p (front r m (width r m - k))
+side-most r m k p = comparison-most p (front r m (width r m - k))
 
 pub next_side-most : (r m k how digit : ℕ) → how ≤ 2 → next_side r m k how digit ≤ 2
 next_side-most r m k how digit h =
@@ -76,10 +77,10 @@ module _ (r : ℕ) (is : IsRadix r) where
       elim (below k (width r m)) [
         | inl t ↦
             let e : width r m - k ≡ suc (width r m - (k + 1)) = omega (arith, t.1) in
-            rw (t.0, e) (three-push r p digit (front r m (width r m - (k + 1))) h)
+            rw (t.0, e) (comparison-push r p digit (front r m (width r m - (k + 1))) h)
         | inr t ↦
             let e : width r m - (k + 1) ≡ 0 = omega (arith, t.1) in
-            rw (t.0, e) (sym (three-greater (p * r + digit) m (past t.1)))
+            rw (t.0, e) (sym (comparison-greater (p * r + digit) m (past t.1)))
       ]
 
   -- past the digits of m a number without leading zeros is greater
@@ -97,10 +98,10 @@ module _ (r : ℕ) (is : IsRadix r) where
         | inr t ↦ absurd (omega (arith, width-rises r is p m t.1))
       ]
 
-  pub side-whole : (m p : ℕ) → whole_side r m (width r p) (side r m (width r p) p) ≡ three p m
+  pub side-whole : (m p : ℕ) → whole_side r m (width r p) (side r m (width r p) p) ≡ comparison p m
   side-whole m p =
       elim (below (width r p) (width r m)) [
-        | inl t ↦ rw t.0 (sym (three-less p m (fewer m p t.1)))
+        | inl t ↦ rw t.0 (sym (comparison-less p m (fewer m p t.1)))
         | inr t ↦
             let e : width r m - width r p ≡ 0 = omega (arith, t.1) in
             rw (t.0, e)

@@ -8,23 +8,23 @@ use Rattle.std.proofs.lemmas.Option.{cond_some}
 use Rattle.lf_core.specs.Domain.{IsDomain}
 use Rattle.lf_core.specs.AcceptsLaws.{map_option, IsImage, guarded}
 use Rattle.lf_number.specs.Digits.{ten, letter-is, digit-taken, digit-byte, point-no_digit, zero-is_digit, digits-one, digits-push, width-one, width-more, width-push, width-least, width-rises, front-quotient, front-push, last-push, value-digits, value-last, value-other, value_after-append}
-use Rattle.lf_number.specs.Sides.{three-most, whole_side-most}
+use Rattle.lf_number.specs.Sides.{comparison-most, whole_side-most}
 use Rattle.lf_number.specs.Free.{free-least, free-whole_low, free-whole_high, counted_at, counted-most}
 use Rattle.lf_number.specs.Range.{range-pos, pos-range}
 use Rattle.lf_number.specs.Mixed.{Reading, begun, lone_zero, whole, counted, point, read_digit, IsFree, digit-goes, free-below, mixed-most, under_test, done-at}
 use Rattle.lf_number.specs.ReadingLaws.{IsReading, AcceptsNumbers, reading_accepts, num_laws}
-use Rattle.lf_number.specs.NumberLaws.{place-apart, below-magnitude, below-zero, value-apart, by_true, by_false, not_zero, is_zero, guarded_true, none_some, zero-letter, zero-text}
+use Rattle.lf_number.specs.NumberLaws.{place-apart, below-magnitude, below-zero, value-distinct, by_true, by_false, not_zero, is_zero, guarded_true, none_some, zero-letter, zero-text}
 use Rattle.lf_number.specs.Numbers.{digit_letter, digit_of, decimal, width, magnitude, last_digits, thousandths_text, whole_digits, thousandths_size, IsBetween, HoldsNumber, num_text}
-use Rattle.lf_number.specs.Machines.{value_after, front, three, in_range, whole_side, counted_place, mixed_digit, counted_done, thousandths_point, thousandths_next, thousandths_ends, thousandths_machine}
+use Rattle.lf_number.specs.Machines.{value_after, front, comparison, in_range, whole_side, counted_place, mixed_digit, counted_done, thousandths_point, thousandths_next, thousandths_ends, thousandths_machine}
 use Rattle.lf_core.specs.Choices.{below, unwrap}
 
 thousand : (m : ℕ) → front 10 m 3 ≡ m / 1000
 thousand m = omega arith
 
-same-place : (x y p : ℕ) → counted_place 3 (three p (x / 1000)) (three p (y / 1000)) ≡ counted_at 10 x y 3 p
+same-place : (x y p : ℕ) → counted_place 3 (comparison p (x / 1000)) (comparison p (y / 1000)) ≡ counted_at 10 x y 3 p
 same-place x y p =
-    ap (λ (m : ℕ). counted_place 3 (three p m) (three p (y / 1000))) (sym (thousand x))
-    ∙ ap (λ (m : ℕ). counted_place 3 (three p (front 10 x 3)) (three p m)) (sym (thousand y))
+    ap (λ (m : ℕ). counted_place 3 (comparison p m) (comparison p (y / 1000))) (sym (thousand x))
+    ∙ ap (λ (m : ℕ). counted_place 3 (comparison p (front 10 x 3)) (comparison p m)) (sym (thousand y))
 
 -- reading back what was written
 pub thousandths-value : (n : ℕ) → value_after 10 0 (thousandths_text (pos n)) ≡ n
@@ -55,7 +55,7 @@ module _ (lo hi : ℤ) where
   is_read begun = false
   is_read lone_zero = false
   is_read (whole p) = false
-  is_read (counted done q) = cond (3 - done == 0) (in_range lo hi false (three q (front 10 (magnitude lo) (3 - done))) (three q (front 10 (magnitude hi) (3 - done)))) false
+  is_read (counted done q) = cond (3 - done == 0) (in_range lo hi false (comparison q (front 10 (magnitude lo) (3 - done))) (comparison q (front 10 (magnitude hi) (3 - done)))) false
 
   abbrev CanRead : Reading → Type 0
   CanRead begun = Unit {0}
@@ -245,7 +245,7 @@ module _ (lo hi : ℤ) where
   abbrev Told : ℕ → ℕ → Type 0
   Told q done = (n : ℤ) × IsBetween lo hi n × (thousandths_text n ≡ shown (counted done q))
 
-  tells-three : (q : ℕ) → in_range lo hi false (three q (magnitude lo)) (three q (magnitude hi)) ≡ true → Told q 3
+  tells-three : (q : ℕ) → in_range lo hi false (comparison q (magnitude lo)) (comparison q (magnitude hi)) ≡ true → Told q 3
   tells-three q e = (pos q, range-pos lo hi q e, text-three q)
 
   tells : (t : Reading) → CanRead t → is_read t ≡ true → (n : ℤ) × IsBetween lo hi n × (thousandths_text n ≡ shown t)
@@ -253,10 +253,10 @@ module _ (lo hi : ℤ) where
   tells lone_zero h e = cc
   tells (whole p) h e = cc
   tells (counted done q) h e =
-      let g = guarded_true (3 - done == 0) (in_range lo hi false (three q (front 10 (magnitude lo) (3 - done))) (three q (front 10 (magnitude hi) (3 - done)))) e in
+      let g = guarded_true (3 - done == 0) (in_range lo hi false (comparison q (front 10 (magnitude lo) (3 - done))) (comparison q (front 10 (magnitude hi) (3 - done)))) e in
       let z : 3 - done ≡ 0 = is_zero (3 - done) g.0 in
       let d : 3 ≡ done = omega (arith, h.0) in
-      subst (λ (x : ℕ). in_range lo hi false (three q (front 10 (magnitude lo) (3 - x))) (three q (front 10 (magnitude hi) (3 - x))) ≡ true → Told q x) d (tells-three q) g.1
+      subst (λ (x : ℕ). in_range lo hi false (comparison q (front 10 (magnitude lo) (3 - x))) (comparison q (front 10 (magnitude hi) (3 - x))) ≡ true → Told q x) d (tells-three q) g.1
 
   fits : (k : ℕ) → pos k ≤ℤ hi → width 10 (front 10 k 3) ≤ whole_digits hi
   fits k m =
@@ -281,8 +281,8 @@ module _ (lo hi : ℤ) where
           | inr z ↦
               elim (cases_Bool (at == 1)) [
                 | inl o ↦
-                    let m = counted-most 3 (three 0 (magnitude lo / 1000)) (three 0 (magnitude hi / 1000)) (three-most 0 (magnitude lo / 1000)) (three-most 0 (magnitude hi / 1000)) 3 (omega arith) in
-                    let f = unwrap ((9 * whole_digits hi + 2) + counted_place 3 (three 0 (magnitude lo / 1000)) (three 0 (magnitude hi / 1000))) after (rw (z, o) at e) in
+                    let m = counted-most 3 (comparison 0 (magnitude lo / 1000)) (comparison 0 (magnitude hi / 1000)) (comparison-most 0 (magnitude lo / 1000)) (comparison-most 0 (magnitude hi / 1000)) 3 (omega arith) in
+                    let f = unwrap ((9 * whole_digits hi + 2) + counted_place 3 (comparison 0 (magnitude lo / 1000)) (comparison 0 (magnitude hi / 1000))) after (rw (z, o) at e) in
                     rw (← f) (omega (arith, m))
                 | inr o ↦
                     elim (below at (9 * whole_digits hi + 2)) [
@@ -312,4 +312,4 @@ module _ (lo hi : ℤ) where
     pub thousandths_laws : IsDomain (HoldsNumber lo hi) (num_text thousandths_text) (thousandths_machine lo hi) (thousandths_size hi)
     thousandths_laws =
         num_laws (IsBetween lo hi) thousandths_text (thousandths_machine lo hi) (thousandths_size hi)
-        thousandths_accepts (value-apart 10 thousandths_text thousandths-value lo hi low) (omega arith) thousandths-stays (omega arith)
+        thousandths_accepts (value-distinct 10 thousandths_text thousandths-value lo hi low) (omega arith) thousandths-stays (omega arith)

@@ -2,13 +2,13 @@
 
 ghost use Rattle.std.specs.Prelude.{◌≡◌, ◌+◌, ◌*◌, ◌/◌, ◌%◌, ◌≤◌, IfSome, cond, ltb};
 ghost use Rattle.lf_number.specs.Numbers.{IsRadix, width as width_of};
-ghost use Rattle.lf_number.specs.Machines.{front as front_of, three as three_of, push_side as push_side_of, next_side as next_side_of, whole_side as whole_side_of, place as place_of, free_first, free_next, counted_place as counted_place_of, in_range as in_range_of};
+ghost use Rattle.lf_number.specs.Machines.{front as front_of, comparison as comparison_of, push_side as push_side_of, next_side as next_side_of, whole_side as whole_side_of, place as place_of, free_first, free_next, counted_place as counted_place_of, in_range as in_range_of};
 
 use crate::digits::{front, width};
 
 /// 0, 1 and 2 for less, equal and greater.
-pub fn three(p: u64, q: u64) -> u32
-    ensures exact { result ≡ three_of p q }
+pub fn comparison(p: u64, q: u64) -> u32
+    ensures exact { result ≡ comparison_of p q }
     ensures most { result ≤ 2 }
 {
     if p < q {
@@ -30,7 +30,7 @@ pub fn push_side(radix: u64, bound: u64, rest: u32, how: u32, digit: u64) -> u32
     if how != 1 {
         return how;
     }
-    three(digit, front(radix, bound, rest) % radix)
+    comparison(digit, front(radix, bound, rest) % radix)
 }
 
 /// How so many digits stand to the first digits of the bound, after one digit more.

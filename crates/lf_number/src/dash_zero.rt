@@ -1,3 +1,5 @@
+//! The domain of the numbers of a range, with zero as `-`.
+
 ghost use Rattle.std.specs.Prelude.{◌≡◌, ◌≤ℤ◌, pos};
 ghost use Rattle.lf_number.specs.Numbers.{HoldsNumber, num_text, dash_text, dash_size};
 ghost use Rattle.lf_number.specs.Machines.{dash_machine, exchanged as exchanged_of};

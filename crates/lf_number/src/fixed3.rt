@@ -1,8 +1,10 @@
+//! The domain of the numbers of a range, in thousandths.
+
 ghost use Rattle.std.specs.Prelude.{◌≡◌, ◌+◌, ◌/◌, ◌≤◌, ◌<◌, ◌≤ℤ◌, ◌++◌, ◌∷◌, length, drop, pos};
 ghost use Rattle.lf_number.specs.Numbers.{HoldsNumber, num_text, thousandths_text, thousandths_size, whole_digits, magnitude as magnitude_of, decimal, last_digits};
 ghost use Rattle.lf_number.specs.Machines.{thousandths_machine, thousandths_point, thousandths_next, thousandths_ends};
 
-use crate::bounds::{Bounds, counted_place, three};
+use crate::bounds::{Bounds, comparison, counted_place};
 use crate::digits::{digit_of, put_digits, put_last};
 use crate::mixed::{MixedDigits, counted_done};
 use crate::reading::{candidate, is_between};
@@ -12,7 +14,9 @@ use std::alloc::Global;
 /// The whole numbers from `lo` to `hi`, in thousandths: the whole part, a point and three digits.
 #[derive(Clone, Copy, Debug, PartialEq, Eq)]
 pub struct Fixed3 {
+    /// The least number, in thousandths.
     pub lo: i64,
+    /// The greatest number, in thousandths.
     pub hi: i64,
     ghost not_negative: { pos 0 ≤ℤ lo },
 }
@@ -51,7 +55,9 @@ impl Fixed3 {
         let digits = self.digits();
         let whole = digits.free;
         if at == 1 {
-            return Some(digits.base() + counted_place(3, three(0, whole.lo), three(0, whole.hi)));
+            return Some(
+                digits.base() + counted_place(3, comparison(0, whole.lo), comparison(0, whole.hi)),
+            );
         }
         if at < digits.base() {
             let (to_lo, to_hi) = whole.whole(at);

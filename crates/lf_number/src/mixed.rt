@@ -9,10 +9,15 @@ use crate::bounds::{Bounds, counted_place, in_range, push_side};
 /// after a first zero.
 #[derive(Clone, Copy)]
 pub struct MixedDigits {
+    /// The most free digits.
     pub most: u32,
+    /// The bounds of what the free digits write, and the radix of all digits.
     pub free: Bounds,
+    /// The least number that may end in counted digits.
     pub lo: u64,
+    /// The greatest number that may end in counted digits.
     pub hi: u64,
+    /// The point after a first digit zero.
     pub zero: u32,
     ghost least: { 1 ≤ most },
     ghost few: { most ≤ 255 },

@@ -1,10 +1,12 @@
+//! The domain of the numbers of a range, in decimal.
+
 ghost use Rattle.std.specs.Prelude.{IsTrue, ◌↔◌, ◌≡◌, ◌≢◌, ◌+◌, ◌-◌, ◌≤◌, ◌<◌, ◌++◌, MatchOption, FitsSigned, OnOk, OnErr};
 ghost use Rattle.std.specs.Int.{w64};
 ghost use Rattle.std.specs.List.{list_all};
 ghost use Rattle.lf_number.specs.Numbers.{HoldsNumber, num_text, number_text, number_size, is_decimal_digit, is_plain_digits, magnitude as magnitude_of, is_negative, half_points};
 ghost use Rattle.lf_number.specs.Machines.{has_minus as has_minus_of, sign_base, number_machine, number_digit, number_done, number_next, number_ends};
 
-use crate::bounds::{Bounds, in_range, three};
+use crate::bounds::{Bounds, comparison, in_range};
 use crate::digits::{digit_of, number_of};
 use crate::reading::is_between;
 use itoa::Buffer;
@@ -73,8 +75,8 @@ impl NumRange {
             return false;
         }
         if at == 1 {
-            let to_lo = three(0, self.lo.unsigned_abs());
-            let to_hi = three(0, self.hi.unsigned_abs());
+            let to_lo = comparison(0, self.lo.unsigned_abs());
+            let to_hi = comparison(0, self.hi.unsigned_abs());
             return in_range(self.lo, self.hi, negative, to_lo, to_hi);
         }
         let (to_lo, to_hi) = self.bounds().whole(at);

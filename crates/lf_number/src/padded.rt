@@ -1,8 +1,10 @@
+//! The domain of the numbers of a range, with leading zeros up to a width.
+
 ghost use Rattle.std.specs.Prelude.{◌≡◌, ◌+◌, ◌-◌, ◌≤◌, ◌<◌, ◌≤ℤ◌, ◌++◌, length, drop, replicate, pos};
 ghost use Rattle.lf_number.specs.Numbers.{IsRadix, HoldsNumber, num_text, padded_text, padded_size, padded_digits, magnitude as magnitude_of, digits, width as width_of};
 ghost use Rattle.lf_number.specs.Machines.{padded_machine, padded_zero, padded_next, padded_ends};
 
-use crate::bounds::{Bounds, counted_place, in_range, three};
+use crate::bounds::{Bounds, comparison, counted_place, in_range};
 use crate::digits::{digit_of, front, put_digits, put_last, width};
 use crate::mixed::{MixedDigits, counted_done};
 use crate::reading::{candidate, is_between};
@@ -34,6 +36,7 @@ impl Radix {
 #[derive(Clone, Copy, Debug, PartialEq, Eq)]
 pub struct Padded {
     pub radix: Radix,
+    /// The least number of digits.
     pub width: u8,
     pub lo: i64,
     pub hi: i64,
@@ -59,8 +62,8 @@ impl Padded {
         let free = Bounds::new(self.radix.value(), lo, hi);
         let most = least.max(free.hi_width);
         let rest = least.saturating_sub(1);
-        let to_lo = three(0, front(free.radix, lo, rest));
-        let to_hi = three(0, front(free.radix, hi, rest));
+        let to_lo = comparison(0, front(free.radix, lo, rest));
+        let to_hi = comparison(0, front(free.radix, hi, rest));
         MixedDigits {
             most,
             free,

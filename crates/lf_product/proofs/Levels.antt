@@ -11,7 +11,7 @@ use Rattle.lf_core.specs.Marked.{Machine, IsMachine}
 use Rattle.lf_product.specs.declared.pair.Pair.{Pair}
 use Rattle.lf_product.specs.Distance.{PairStep, Suffices, IsDistance}
 use Rattle.lf_product.specs.Cells.{cell, steps_at, IsExact}
-use Rattle.lf_product.specs.Level.{pair, Waits, Reached, Grows, Complete, AllBefore, IsWhole, room}
+use Rattle.lf_product.specs.Level.{pair, Waits, Reached, Grows, Complete, AllBefore, IsWhole, Standing, Going, room}
 use Rattle.lf_product.proofs.Places.{one_if, cell-lt, cell_same, cell_swap, eqb_comm, steps_at-set_same, steps_at-set_other, steps_at-same, read_at}
 
 pub grows-trans : (n none : ℕ) (ds es fs : List ℕ) → Grows n none ds es → Grows n none es fs → Grows n none ds fs
@@ -20,6 +20,27 @@ grows-trans n none ds es fs g h = record {
       let e = g.stays a b d ha hb low in
       h.stays a b d ha hb (omega (arith, e, low)) ∙ e;
   same_length = h.same_length ∙ g.same_length;
+}
+
+-- where nothing changes, the search goes on
+pub going_same : (m : Machine) (none steps : ℕ) (ds : List ℕ) (ws : List Pair) → Standing m none steps ds ws → Going m none steps ds ws ds ws
+going_same m none steps ds ws s = record {
+  whole = s.whole;
+  reached = s.reached;
+  grows = record { stays = λ a b d ha hb low. refl; same_length = refl };
+  same_room = refl;
+}
+
+-- what goes on stands
+pub standing_on : (m : Machine) (none steps : ℕ) (ds es : List ℕ) (ws xs : List Pair) → Standing m none steps ds ws → Going m none steps ds ws es xs → Standing m none steps es xs
+standing_on m none steps ds es ws xs s g = record { few = s.few; small = s.small; whole = g.whole; reached = g.reached }
+
+pub going_trans : (m : Machine) (none steps : ℕ) (ds es fs : List ℕ) (ws xs ys : List Pair) → Going m none steps ds ws es xs → Going m none steps es xs fs ys → Going m none steps ds ws fs ys
+going_trans m none steps ds es fs ws xs ys g h = record {
+  whole = h.whole;
+  reached = h.reached;
+  grows = grows-trans m.count none ds es fs g.grows h.grows;
+  same_room = h.same_room ∙ g.same_room;
 }
 
 -- the order of the points changes nothing

@@ -16,7 +16,6 @@ use Rattle.lf_product.specs.ByteSet.{HasByte}
 use Rattle.lf_product.specs.Cells.{steps_at}
 use Rattle.lf_product.specs.Arcs.{seen, lists_of}
 use Rattle.lf_product.specs.Level.{Reached, Grows, IsCovered, AreBefore, AreArrivals, StepBy, Tell, Follows, Going, room}
-use Rattle.lf_product.proofs.Levels.{grows-trans}
 
 pub contains_take : {X : Type 0} (xs : List X) (i : ℕ) (x : X) → Contains (take i xs) x → Contains xs x
 contains_take xs i x h = subst (λ ys. Contains ys x) (take-append-drop i xs) (Contains-append_left (take i xs) (drop i xs) x h)
@@ -39,9 +38,6 @@ pub before_grows : (m : Machine) (none : ℕ) (ds es : List ℕ) (p : Pair) → 
 before_grows m none ds es p g h a b d ha hb s =
     let old : steps_at ds a b d < none = h a b d ha hb s in
     let e = g.stays a b d ha hb old in omega (arith, e, old)
-
-pub going_on : (m : Machine) (none steps : ℕ) (ds es fs : List ℕ) (ws xs ys : List Pair) → Going m none steps ds ws es xs → Reached m m.count none steps fs ys → Grows m.count none es fs → room none fs ys ≡ room none es xs → Going m none steps ds ws fs ys
-going_on m none steps ds es fs ws xs ys g r h e = record { whole = h.same_length ∙ g.whole; reached = r; grows = grows-trans m.count none ds es fs g.grows h; same_room = e ∙ g.same_room }
 
 -- without marks the same differences are seen, where the points differ
 same_difference : (marked d : Bool) (x y : Move) → (x.to ≡ y.to → marked ≡ true) → differed_by d (seen marked x) (seen marked y) ≡ differed_by d x y

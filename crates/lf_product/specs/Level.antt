@@ -3,6 +3,7 @@ use Rattle.std.specs.Prelude.{◌≡◌, ℕ, suc, ◌+◌, ◌*◌, ◌<◌, �
 use Rattle.std.specs.List.{Contains, count_by}
 use Rattle.lf_core.specs.declared.marked.Move.{Move}
 use Rattle.lf_core.specs.Marked.{Machine}
+use Rattle.lf_limits.specs.Limits.{most_size}
 use Rattle.lf_product.specs.ByteSet.{HasByte}
 use Rattle.lf_product.specs.declared.pair.Pair.{Pair}
 use Rattle.lf_product.specs.declared.arrivals.Arrival.{Arrival}
@@ -81,6 +82,13 @@ pub record Tell (m : Machine) (lists : List (List Arrival)) (p : Pair) : Type 0 
   pub from_below : (to : ℕ) (x : Arrival) → Contains (slice_index_or lists to []) x → x.from < m.count
   pub steps : (x y : Arrival) → Contains (slice_index_or lists p.left []) x → Contains (slice_index_or lists p.right []) y → StepBy m x y p
   pub all : (none : ℕ) (ds : List ℕ) → ((x y : Arrival) → Contains (slice_index_or lists p.left []) x → Contains (slice_index_or lists p.right []) y → IsCovered m.count none ds x y p) → AreBefore m none ds p
+
+-- what holds before a pair is reached in so many steps: a place for each distance, none greater than the steps, and steps that are a distance
+pub record Standing (m : Machine) (none steps : ℕ) (ds : List ℕ) (ws : List Pair) : Type 0 where
+  pub few : m.count ≤ most_size
+  pub small : steps < none
+  pub whole : IsWhole m ds
+  pub reached : Reached m m.count none steps ds ws
 
 -- what the search keeps within a level, from one moment to another
 pub record Going (m : Machine) (none steps : ℕ) (ds : List ℕ) (ws : List Pair) (es : List ℕ) (xs : List Pair) : Type 0 where

@@ -1,3 +1,4 @@
+-- The definitions of flagged pairs, their distances, and the search for them.
 pub mod ByteSet
 pub mod Distance
 pub mod Cells

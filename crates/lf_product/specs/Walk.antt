@@ -66,7 +66,7 @@ pub record IsLevel (m : Machine) (k : ℕ) (level : List Pair) : Type 0 where
   pub each_least : (p : Pair) → Contains level p → IsLeast m k p
 
 -- the least byte with a next pair, and all next pairs, none twice
-pub record IsOnward (m : Machine) (k : ℕ) (level : List Pair) (byte : ℕ) (next : List Pair) : Type 0 where
+pub record IsLeastOnward (m : Machine) (k : ℕ) (level : List Pair) (byte : ℕ) (next : List Pair) : Type 0 where
   pub low : byte < 256
   pub some : 0 < length next
   pub from : (p : Pair) → Contains next p → IsNextOf m k level byte p

@@ -3,6 +3,7 @@
 
 mod arrivals;
 mod byte_set;
+/// A law over the definitions: a machine is ambiguous or not.
 pub mod laws;
 mod pair;
 mod pairs;

@@ -6,7 +6,7 @@ ghost use Rattle.lf_product.specs.Cells.{cell, steps_at, IsExact};
 ghost use Rattle.lf_core.specs.Written.{machine_of};
 ghost use Rattle.lf_limits.specs.Limits.{most_size};
 ghost use Rattle.lf_product.specs.Arcs.{lists_of};
-ghost use Rattle.lf_product.specs.Level.{Reached, Grows, Complete, AllBefore, room, IsWhole, Follows, AreArrivals, IsCovered, AreBefore, StepBy, Tell};
+ghost use Rattle.lf_product.specs.Level.{Complete, AllBefore, IsWhole, Standing, Going, Follows, AreArrivals, IsCovered, AreBefore, StepBy, Tell};
 
 use crate::arrivals::{Arrival, arrivals_of};
 use crate::pair::Pair;
@@ -36,26 +36,41 @@ fn reach(
     pair: Pair,
     steps: u32,
 ) -> Result<(), OutOfMemory>
-    requires few { (machine_of table.now).count ≤ most_size }
+    requires standing { Standing (machine_of table.now) NONE steps distances.old.items waiting.old.items }
     requires left { pair.left < (machine_of table.now).count }
     requires right { pair.right < (machine_of table.now).count }
-    requires small { steps < NONE }
-    requires whole { IsWhole (machine_of table.now) distances.old.items }
     requires way { Suffices (machine_of table.now) steps pair.left pair.right pair.differed }
-    requires reached { Reached (machine_of table.now) ((machine_of table.now).count)
-        NONE steps distances.old.items waiting.old.items }
-    ensures reached { OnOk result
-        (Reached (machine_of table.now) ((machine_of table.now).count) NONE steps distances.new.items waiting.new.items) }
-    ensures grows { OnOk result (Grows ((machine_of table.now).count) NONE distances.old.items distances.new.items) }
-    ensures room { OnOk result
-        (room NONE distances.new.items waiting.new.items ≡ room NONE distances.old.items waiting.old.items) }
-    ensures has { OnOk result
-        (steps_at distances.new.items pair.left pair.right pair.differed < NONE) }
+    ensures going { OnOk result (Going (machine_of table.now) NONE steps
+        distances.old.items waiting.old.items distances.new.items waiting.new.items) }
+    ensures has { OnOk result (steps_at distances.new.items pair.left pair.right pair.differed < NONE) }
 {
     let at = place(pair);
     if distances[at] == NONE {
         waiting.push(pair)?;
         distances[at] = steps;
+    }
+    Ok(())
+}
+
+/// Gives the pair its distance where that is so, if it has none yet.
+fn reach_if(
+    is_so: bool,
+    table: &Table,
+    distances: &mut Vec<u32>,
+    waiting: &mut Vec<Pair>,
+    pair: Pair,
+    steps: u32,
+) -> Result<(), OutOfMemory>
+    requires standing { Standing (machine_of table.now) NONE steps distances.old.items waiting.old.items }
+    requires left { pair.left < (machine_of table.now).count }
+    requires right { pair.right < (machine_of table.now).count }
+    requires way { is_so ≡ true → Suffices (machine_of table.now) steps pair.left pair.right pair.differed }
+    ensures going { OnOk result (Going (machine_of table.now) NONE steps
+        distances.old.items waiting.old.items distances.new.items waiting.new.items) }
+    ensures has { OnOk result (is_so ≡ true → steps_at distances.new.items pair.left pair.right pair.differed < NONE) }
+{
+    if is_so {
+        return reach(table, distances, waiting, pair, steps);
     }
     Ok(())
 }
@@ -70,52 +85,37 @@ fn reach_by(
     pair: Pair,
     steps: u32,
 ) -> Result<(), OutOfMemory>
-    requires few { (machine_of table.now).count ≤ most_size }
+    requires standing { Standing (machine_of table.now) NONE steps distances.old.items waiting.old.items }
     requires left { x.now.from < (machine_of table.now).count }
     requires right { y.now.from < (machine_of table.now).count }
     requires step { StepBy (machine_of table.now) x.now y.now pair }
-    requires small { steps < NONE }
-    requires whole { IsWhole (machine_of table.now) distances.old.items }
     requires way { Follows (machine_of table.now) steps pair }
-    requires reached { Reached (machine_of table.now) ((machine_of table.now).count)
-        NONE steps distances.old.items waiting.old.items }
-    ensures reached { OnOk result
-        (Reached (machine_of table.now) ((machine_of table.now).count) NONE steps distances.new.items waiting.new.items) }
-    ensures grows { OnOk result (Grows ((machine_of table.now).count) NONE distances.old.items distances.new.items) }
-    ensures room { OnOk result
-        (room NONE distances.new.items waiting.new.items ≡ room NONE distances.old.items waiting.old.items) }
+    ensures going { OnOk result (Going (machine_of table.now) NONE steps
+        distances.old.items waiting.old.items distances.new.items waiting.new.items) }
     ensures has { OnOk result (IsCovered ((machine_of table.now).count) NONE distances.new.items x.now y.now pair) }
 {
-    if x.bytes.meets(&y.bytes) {
-        let same = pair.left == pair.right && x.mark == y.mark;
-        if pair.differed {
-            reach(
-                table,
-                distances,
-                waiting,
-                Pair {
-                    left: x.from,
-                    right: y.from,
-                    differed: true,
-                },
-                steps,
-            )?;
-        }
-        if pair.differed != same {
-            reach(
-                table,
-                distances,
-                waiting,
-                Pair {
-                    left: x.from,
-                    right: y.from,
-                    differed: false,
-                },
-                steps,
-            )?;
-        }
+    if !x.bytes.meets(&y.bytes) {
+        return Ok(());
     }
-    Ok(())
+    let same = pair.left == pair.right && x.mark == y.mark;
+    let before = Pair {
+        left: x.from,
+        right: y.from,
+        differed: true,
+    };
+    reach_if(pair.differed, table, distances, waiting, before, steps)?;
+    let before = Pair {
+        differed: false,
+        ..before
+    };
+    reach_if(
+        pair.differed != same,
+        table,
+        distances,
+        waiting,
+        before,
+        steps,
+    )
 }
 
 /// The lists that tell the steps to the pair: marks count only where its points are one.
@@ -142,20 +142,13 @@ fn reach_from(
     pair: Pair,
     steps: u32,
 ) -> Result<(), OutOfMemory>
-    requires few { (machine_of table.now).count ≤ most_size }
+    requires standing { Standing (machine_of table.now) NONE steps distances.old.items waiting.old.items }
     requires arrivals { Tell (machine_of table.now) (lists_of arrivals.now) pair }
     requires left { pair.left < (machine_of table.now).count }
     requires right { pair.right < (machine_of table.now).count }
-    requires small { steps < NONE }
-    requires whole { IsWhole (machine_of table.now) distances.old.items }
     requires way { Follows (machine_of table.now) steps pair }
-    requires reached { Reached (machine_of table.now) ((machine_of table.now).count)
-        NONE steps distances.old.items waiting.old.items }
-    ensures reached { OnOk result
-        (Reached (machine_of table.now) ((machine_of table.now).count) NONE steps distances.new.items waiting.new.items) }
-    ensures grows { OnOk result (Grows ((machine_of table.now).count) NONE distances.old.items distances.new.items) }
-    ensures room { OnOk result
-        (room NONE distances.new.items waiting.new.items ≡ room NONE distances.old.items waiting.old.items) }
+    ensures going { OnOk result (Going (machine_of table.now) NONE steps
+        distances.old.items waiting.old.items distances.new.items waiting.new.items) }
     ensures has { OnOk result (AreBefore (machine_of table.now) NONE distances.new.items pair) }
 {
     if pair.left != pair.right {
@@ -181,17 +174,12 @@ fn next_level(
     level: &[Pair],
     steps: u32,
 ) -> Result<Vec<Pair>, OutOfMemory>
-    requires few { (machine_of table.now).count ≤ most_size }
     requires marked { AreArrivals (machine_of table.now) true (lists_of marked.now) }
     requires joined { AreArrivals (machine_of table.now) false (lists_of joined.now) }
-    requires small { steps + 1 < NONE }
-    requires whole { IsWhole (machine_of table.now) distances.old.items }
-    requires reached { Reached (machine_of table.now) ((machine_of table.now).count)
-        NONE steps distances.old.items level.now }
-    ensures reached { IfOk result
-        (λ next. Reached (machine_of table.now) ((machine_of table.now).count) NONE (steps + 1) distances.new.items next.items) }
-    ensures grows { OnOk result (Grows ((machine_of table.now).count) NONE distances.old.items distances.new.items) }
-    ensures room { IfOk result (λ next. room NONE distances.new.items next.items ≡ room NONE distances.old.items []) }
+    requires more { steps + 1 < NONE }
+    requires standing { Standing (machine_of table.now) NONE steps distances.old.items level.now }
+    ensures going { IfOk result (λ next. Going (machine_of table.now) NONE (steps + 1)
+        distances.old.items [] distances.new.items next.items) }
     ensures has { OnOk result (AllBefore (machine_of table.now) NONE distances.new.items level.now) }
 {
     let mut waiting = Vec::new(alloc);
@@ -213,12 +201,9 @@ fn first_level(
     requires whole { IsWhole (machine_of table.now) distances.old.items }
     requires none { (a b : ℕ) (d : Bool) → a < (machine_of table.now).count → b < (machine_of table.now).count →
         steps_at distances.old.items a b d ≡ NONE }
-    ensures whole { OnOk result (IsWhole (machine_of table.now) distances.new.items) }
-    ensures reached { IfOk result
-        (λ next. Reached (machine_of table.now) ((machine_of table.now).count) NONE 0 distances.new.items next.items) }
-    ensures room { IfOk result (λ next. room NONE distances.new.items next.items ≡ room NONE distances.old.items []) }
-    ensures has { OnOk result
-        (Complete (machine_of table.now) ((machine_of table.now).count) 0 distances.new.items) }
+    ensures going { IfOk result (λ next. Going (machine_of table.now) NONE 0
+        distances.old.items [] distances.new.items next.items) }
+    ensures has { OnOk result (Complete (machine_of table.now) ((machine_of table.now).count) 0 distances.new.items) }
 {
     let mut waiting = Vec::new(alloc);
     for left in 0..table.points() {

@@ -2,7 +2,7 @@
 ghost use Rattle.std.specs.Prelude.{◌≡◌, ◌+◌, ◌<◌, ◌⊎◌, ◌↔◌, [], OnOk, IfOk, IsTrue, All, Contains};
 ghost use Rattle.lf_core.specs.Marked.{IsMachine, NoneTwice};
 ghost use Rattle.lf_core.specs.Written.{machine_of};
-ghost use Rattle.lf_product.specs.Walk.{IsLeast, IsNext, IsNextOf, AreBelow, IsLevel, IsOnward, IsLeastWord};
+ghost use Rattle.lf_product.specs.Walk.{IsLeast, IsNext, IsNextOf, AreBelow, IsLevel, IsLeastOnward, IsLeastWord};
 
 use crate::pair::Pair;
 use crate::pairs::Pairs;
@@ -115,7 +115,7 @@ fn least_onward(
     steps: u32,
 ) -> Result<Onward, OutOfMemory>
     requires { IsLevel (machine_of pairs.now) (steps + 1) level.now }
-    ensures { IfOk result (λ on. IsOnward (machine_of pairs.now) steps level.now on.byte on.next.items) }
+    ensures { IfOk result (λ on. IsLeastOnward (machine_of pairs.now) steps level.now on.byte on.next.items) }
 {
     pairs.is_machine();
     for byte in 0..256u32 {

@@ -10,7 +10,7 @@ use lf_core::{Marked, Move, OutOfMemory, Run};
 use lf_product::Pairs;
 use lf_sets::SetReader;
 use lf_witness::least_from;
-use lf_written::{Table, Written};
+use lf_written::{Table, WrittenOut};
 use smallvec::SmallVec;
 use std::alloc::Global;
 
@@ -255,10 +255,10 @@ fn same_end<A: Marked, B: Marked>(a: &A, b: &B, point: u32) -> bool {
 }
 
 /// The full machine, written out.
-fn written_out(alloc: Global) -> Result<Written<SmallMachine>, OutOfMemory> {
+fn written_out(alloc: Global) -> Result<WrittenOut<SmallMachine>, OutOfMemory> {
     let m = full_machine(alloc)?;
     let table = Table::of(alloc, &m)?;
-    Ok(Written::new(m, table))
+    Ok(WrittenOut::new(m, table))
 }
 
 #[test]
@@ -284,7 +284,7 @@ fn what_is_written_out_is_the_same(rt: HostRuntime) {
 /// Whether the moves from the point on the byte have these numbers.
 fn has_row(
     alloc: Global,
-    written: &Written<SmallMachine>,
+    written: &WrittenOut<SmallMachine>,
     point: u32,
     byte: u8,
     numbers: &[u32],

@@ -1,3 +1,4 @@
+//! Random machines of six points, beside an enumeration of all short words.
 ghost use Rattle.std.specs.Prelude.{◌≡◌};
 ghost use Rattle.lf_core.specs.Written.{machine_of};
 

@@ -38,7 +38,7 @@ fn push_last(
     push_line(alloc, notes, line, into)
 }
 
-/// Appends the lines of what is left of a text behind the front of a line, by the definition.
+/// Appends the lines of what is left of a text behind the start of a line, by the definition.
 fn cut(
     alloc: Global,
     notes: bool,

@@ -1,3 +1,5 @@
+//! Short texts in each cutting, and short streams to their ends, beside the lines by definition.
+
 ghost use Rattle.std.specs.Prelude.{◌≡◌, ◌≤◌, false};
 ghost use Rattle.lf_stream.specs.Standing.{is_finished};
 

@@ -4,13 +4,13 @@ use Rattle.std.specs.List.{list_all}
 use Rattle.lf_format.specs.declared.format.Piece.{Piece}
 use Rattle.lf_format.specs.declared.format.Piece.TheVariants as piece
 use Rattle.lf_spelling.specs.declared.fault.Cause.{Cause}
-use Rattle.lf_spelling.specs.declared.front.Given.{Given}
-use Rattle.lf_spelling.specs.declared.front.Given.TheVariants.{Nothing, Byte, Slot, Spaced, Braced}
+use Rattle.lf_spelling.specs.declared.item_reader.Given.{Given}
+use Rattle.lf_spelling.specs.declared.item_reader.Given.TheVariants.{Nothing, Byte, Slot, Spaced, Braced}
 use Rattle.lf_spelling.specs.Pieces.{with_literal, pieces_of, slots_of}
 use Rattle.lf_spelling.specs.Items.{Item, Reading, text_of, given_of, Stand}
 use Rattle.lf_format.specs.Keeps.{is_no_feed, EachKept, AreJoined, slots_in, literal_bytes, KeepsFormat}
 use Rattle.lf_spelling.specs.Spelling.{SpellsPieces}
-use Rattle.lf_spelling.specs.Fronts.{KeepsGiven, given_bytes, IsFront}
+use Rattle.lf_spelling.specs.ItemReaders.{KeepsGiven, given_bytes, ReadsItems}
 
 AllGiven : List Given → Type 0
 AllGiven [] = Unit {0}
@@ -80,7 +80,7 @@ bytes_of (Slot slot ∷ given) = omega (arith, bytes_of given)
 bytes_of (Spaced slot ∷ given) = omega (arith, bytes_of given)
 bytes_of (Braced slot ∷ given) = omega (arith, bytes_with (125 ∷ []) (pieces_of given), bytes_of given)
 
-module _ {S : Type 0} (reading : S → List ℕ → Reading S) (item_is : S → Item S → List ℕ → Type 0) (fault_is : S → List ℕ → Cause → Type 0) (laws : IsFront reading item_is fault_is) where
+module _ {S : Type 0} (reading : S → List ℕ → Reading S) (item_is : S → Item S → List ℕ → Type 0) (fault_is : S → List ℕ → Cause → Type 0) (laws : ReadsItems reading item_is fault_is) where
   all_given : (state : S) (items : List (Item S)) (rest : List ℕ) → Stand item_is state items rest → AllGiven (given_of items)
   unfolding AllGiven
   all_given state [] rest h = tt

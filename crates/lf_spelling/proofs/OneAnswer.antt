@@ -4,7 +4,7 @@ use Rattle.std.proofs.lemmas.Bool.{cases_lt, lt-ltb, le-ltb}
 use Rattle.lf_format.specs.declared.format.Piece.{Piece}
 use Rattle.lf_spelling.specs.declared.fault.Cause.{Cause}
 use Rattle.lf_spelling.specs.declared.fault.Cause.TheVariants.{EmptyFormat, TooManySlots}
-use Rattle.lf_spelling.specs.declared.front.Given.{Given}
+use Rattle.lf_spelling.specs.declared.item_reader.Given.{Given}
 use Rattle.lf_spelling.specs.Pieces.{pieces_of, slots_of}
 use Rattle.lf_spelling.specs.Items.{Item, Reading, Found, Failed, text_of, given_of, state_after, Stand}
 use Rattle.lf_spelling.specs.Spelling.{BeginsWith, SpellsPieces, Faulty, no_item, one_too_many, no_piece, Spells, IsAnswer, AnswersFormat, AnswersFault, HasOneAnswer}
@@ -12,7 +12,7 @@ use Rattle.lf_format.specs.Shape.{Shape}
 use Rattle.lf_format.specs.declared.format.LineEnd.{LineEnd}
 use Rattle.lf_spelling.specs.declared.fault.FormatFault.{FormatFault}
 use Rattle.lf_spelling.specs.declared.fault.FormatFault.TheVariants as fault
-use Rattle.lf_spelling.specs.Fronts.{IsFront}
+use Rattle.lf_spelling.specs.ItemReaders.{ReadsItems}
 use Rattle.lf_spelling.proofs.Joining.{slots_of-append}
 use Rattle.lf_spelling.proofs.Steps.{begins_more}
 
@@ -59,7 +59,7 @@ record Along {S : Type 0} (reading : S → List ℕ → Reading S) (total : Answ
   enough : length rest ≤ fuel
   is : total ≡ answer reading rest fuel state given at
 
-along : {S : Type 0} (reading : S → List ℕ → Reading S) (item_is : S → Item S → List ℕ → Type 0) (fault_is : S → List ℕ → Cause → Type 0) (laws : IsFront reading item_is fault_is)
+along : {S : Type 0} (reading : S → List ℕ → Reading S) (item_is : S → Item S → List ℕ → Type 0) (fault_is : S → List ℕ → Cause → Type 0) (laws : ReadsItems reading item_is fault_is)
     (items : List (Item S)) (rest : List ℕ) (fuel : ℕ) (state : S) (given : List Given) (at : ℕ) → Stand item_is state items rest → slots_of (given ++ given_of items) ≤ 128 → length (text_of items ++ rest) ≤ fuel
     → Along reading (answer reading (text_of items ++ rest) fuel state given at) rest (state_after state items) (given ++ given_of items) (at + length (text_of items))
 along reading item_is fault_is laws [] rest fuel state given at stand few enough = record {
@@ -92,7 +92,7 @@ along reading item_is fault_is laws (item ∷ items) rest (suc fuel) state given
 answer_to : {S : Type 0} → (S → List ℕ → Reading S) → S → List ℕ → Answer
 answer_to reading start text = answer reading text (length text) start [] 0
 
-begun : {S : Type 0} (reading : S → List ℕ → Reading S) (item_is : S → Item S → List ℕ → Type 0) (fault_is : S → List ℕ → Cause → Type 0) (laws : IsFront reading item_is fault_is)
+begun : {S : Type 0} (reading : S → List ℕ → Reading S) (item_is : S → Item S → List ℕ → Type 0) (fault_is : S → List ℕ → Cause → Type 0) (laws : ReadsItems reading item_is fault_is)
     (start : S) (text : List ℕ) (items : List (Item S)) (rest : List ℕ) → BeginsWith item_is start text items rest → Along reading (answer_to reading start text) rest (state_after start items) (given_of items) (length (text_of items))
 unfolding answer_to
 begun reading item_is fault_is laws start text items rest h =
@@ -113,7 +113,7 @@ unfolding ending
 ending-none [] none = refl
 ending-none (piece ∷ pieces) none = absurd cc
 
-spelled_answer : {S : Type 0} (reading : S → List ℕ → Reading S) (item_is : S → Item S → List ℕ → Type 0) (fault_is : S → List ℕ → Cause → Type 0) (laws : IsFront reading item_is fault_is)
+spelled_answer : {S : Type 0} (reading : S → List ℕ → Reading S) (item_is : S → Item S → List ℕ → Type 0) (fault_is : S → List ℕ → Cause → Type 0) (laws : ReadsItems reading item_is fault_is)
     (start : S) (text : List ℕ) (pieces : List Piece) → SpellsPieces item_is start text pieces → answer_to reading start text ≡ Ok pieces
 spelled_answer reading item_is fault_is laws start text pieces h =
     let far = begun reading item_is fault_is laws start text h.items [] h.whole in
@@ -126,7 +126,7 @@ some_fuel reading total rest state given at far some = less far.fuel far.enough 
     less zero enough is = absurd (omega arith)
     less (suc fuel) enough is = (fuel, is)
 
-faulty_answer : {S : Type 0} (reading : S → List ℕ → Reading S) (item_is : S → Item S → List ℕ → Type 0) (fault_is : S → List ℕ → Cause → Type 0) (laws : IsFront reading item_is fault_is)
+faulty_answer : {S : Type 0} (reading : S → List ℕ → Reading S) (item_is : S → Item S → List ℕ → Type 0) (fault_is : S → List ℕ → Cause → Type 0) (laws : ReadsItems reading item_is fault_is)
     (start : S) (text : List ℕ) (place : ℕ) (cause : Cause) → Faulty item_is fault_is start text place cause → answer_to reading start text ≡ Err (place, cause)
 faulty_answer reading item_is fault_is laws start text place cause (no_item items rest begins place_is fault) =
     let far = begun reading item_is fault_is laws start text items rest begins in
@@ -151,8 +151,8 @@ says_at_end : {S : Type 0} (item_is : S → Item S → List ℕ → Type 0) (fau
 says_at_end item_is fault_is start text items [] is h = inr (0, EmptyFormat, no_piece items h (sym is) refl refl)
 says_at_end item_is fault_is start text items (piece ∷ pieces) is h = inl (piece ∷ pieces, record { items = items; whole = h; pieces_are = is; some = λ e. absurd cc })
 
--- what a reading at the front of the rest says, where what follows one more item says something
-says_here : {S : Type 0} (reading : S → List ℕ → Reading S) (item_is : S → Item S → List ℕ → Type 0) (fault_is : S → List ℕ → Cause → Type 0) (laws : IsFront reading item_is fault_is)
+-- what a reading at the start of the rest says, where what follows one more item says something
+says_here : {S : Type 0} (reading : S → List ℕ → Reading S) (item_is : S → Item S → List ℕ → Type 0) (fault_is : S → List ℕ → Cause → Type 0) (laws : ReadsItems reading item_is fault_is)
     (start : S) (text : List ℕ) (fuel : ℕ) (items : List (Item S)) (rest : List ℕ) → 1 ≤ length rest → length rest ≤ suc fuel → BeginsWith item_is start text items rest
     → ((more : List (Item S)) (after : List ℕ) → length after ≤ fuel → BeginsWith item_is start text more after → Says item_is fault_is start text)
     → (r : Reading S) → reading (state_after start items) rest ≡ r → Says item_is fault_is start text
@@ -169,7 +169,7 @@ says_here reading item_is fault_is laws start text fuel items rest some enough h
     inr (length (text_of items), cause, no_item items rest h refl (laws.failed (state_after start items) rest cause some read))
 
 -- from where items have been read, the text says something
-says : {S : Type 0} (reading : S → List ℕ → Reading S) (item_is : S → Item S → List ℕ → Type 0) (fault_is : S → List ℕ → Cause → Type 0) (laws : IsFront reading item_is fault_is)
+says : {S : Type 0} (reading : S → List ℕ → Reading S) (item_is : S → Item S → List ℕ → Type 0) (fault_is : S → List ℕ → Cause → Type 0) (laws : ReadsItems reading item_is fault_is)
     (start : S) (text : List ℕ) (fuel : ℕ) (items : List (Item S)) (rest : List ℕ) → length rest ≤ fuel → BeginsWith item_is start text items rest → Says item_is fault_is start text
 says reading item_is fault_is laws start text fuel items [] enough h = says_at_end item_is fault_is start text items (pieces_of (given_of items)) refl h
 says reading item_is fault_is laws start text zero items (b ∷ rest) enough h = absurd (omega arith)
@@ -201,7 +201,7 @@ pub record HasOnePieces {State : Type 0} (item_is : State → Item State → Lis
   pub one_fault : (p q : ℕ) (a b : Cause) → Faulty item_is fault_is start text p a → Faulty item_is fault_is start text q b → (p ≡ q) × (a ≡ b)
   pub not_both : (pieces : List Piece) (place : ℕ) (cause : Cause) → SpellsPieces item_is start text pieces → Faulty item_is fault_is start text place cause → ⊥
 
-has_one_pieces : {S : Type 0} (reading : S → List ℕ → Reading S) (item_is : S → Item S → List ℕ → Type 0) (fault_is : S → List ℕ → Cause → Type 0) (laws : IsFront reading item_is fault_is)
+has_one_pieces : {S : Type 0} (reading : S → List ℕ → Reading S) (item_is : S → Item S → List ℕ → Type 0) (fault_is : S → List ℕ → Cause → Type 0) (laws : ReadsItems reading item_is fault_is)
     (start : S) (text : List ℕ) → HasOnePieces item_is fault_is start text
 has_one_pieces reading item_is fault_is laws start text = record {
   some = says reading item_is fault_is laws start text (length text) [] text (omega arith) (record { parts = refl; stand = tt; few = omega arith });
@@ -219,7 +219,7 @@ spells_some : {S : Type 0} (item_is : S → Item S → List ℕ → Type 0) (fau
 spells_some item_is fault_is start end notes text (inl s) = inl (record { pieces = s.0; end = end; notes = notes }, record { pieces = s.1; end_is = refl; notes_is = refl })
 spells_some item_is fault_is start end notes text (inr f) = inr f
 
-pub has_one_answer : {S : Type 0} (reading : S → List ℕ → Reading S) (item_is : S → Item S → List ℕ → Type 0) (fault_is : S → List ℕ → Cause → Type 0) (laws : IsFront reading item_is fault_is)
+pub has_one_answer : {S : Type 0} (reading : S → List ℕ → Reading S) (item_is : S → Item S → List ℕ → Type 0) (fault_is : S → List ℕ → Cause → Type 0) (laws : ReadsItems reading item_is fault_is)
     (start : S) (end : LineEnd) (notes : Bool) (text : List ℕ) → HasOneAnswer item_is fault_is start end notes text
 has_one_answer reading item_is fault_is laws start end notes text =
     let one = has_one_pieces reading item_is fault_is laws start text in

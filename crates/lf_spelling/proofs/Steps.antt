@@ -1,11 +1,11 @@
 -- A text that begins with items, item by item.
 use Rattle.std.proofs.Common.{◌≡◌, ℕ, ◌<◌, ◌≤◌, ◌+◌, List, [], ◌∷◌, ◌++◌, length, take, drop, refl, sym, ap, subst, ◌∙◌, append_assoc, append-nil, length-append, length-drop, arith}
-use Rattle.lf_spelling.specs.declared.front.Given.{Given}
+use Rattle.lf_spelling.specs.declared.item_reader.Given.{Given}
 use Rattle.lf_spelling.specs.declared.built.Built.{Built}
 use Rattle.lf_spelling.specs.Pieces.{pieces_of, slots_of}
 use Rattle.lf_spelling.specs.Items.{Item, text_of, given_of, state_after, Stand}
 use Rattle.lf_spelling.specs.Spelling.{BeginsWith, Faulty, no_item, one_too_many, no_piece}
-use Rattle.lf_spelling.specs.Fronts.{IsFront}
+use Rattle.lf_spelling.specs.ItemReaders.{ReadsItems}
 use Rattle.lf_spelling.specs.Items.{Reading, Found, Failed}
 use Rattle.lf_format.specs.declared.format.Piece.{Piece}
 use Rattle.lf_spelling.specs.declared.fault.Cause.{Cause}
@@ -49,7 +49,7 @@ pub record Progress {S : Type 0} (item_is : S → Item S → List ℕ → Type 0
   pub built_is : IsBuilt (given_of items) built
 
 -- the item at hand, as the front's law has it
-at_hand : {S : Type 0} (reading : S → List ℕ → Reading S) (item_is : S → Item S → List ℕ → Type 0) (fault_is : S → List ℕ → Cause → Type 0) (laws : IsFront reading item_is fault_is)
+at_hand : {S : Type 0} (reading : S → List ℕ → Reading S) (item_is : S → Item S → List ℕ → Type 0) (fault_is : S → List ℕ → Cause → Type 0) (laws : ReadsItems reading item_is fault_is)
     (start : S) (text : List ℕ) (at : ℕ) (state : S) (built : Built) (p : Progress item_is start text at state built) (item : Item S) (after : List ℕ) → at < length text
     → reading state (drop at text) ≡ Found item after → (drop at text ≡ item.bytes ++ after) × item_is (state_after start p.items) item after × (1 ≤ length item.bytes)
 at_hand reading item_is fault_is laws start text at state built p item after low read =
@@ -57,7 +57,7 @@ at_hand reading item_is fault_is laws start text at state built p item after low
     let found = laws.found state (drop at text) item after some read in
     (found.0, subst (λ (s : _). item_is s item after) (sym p.state_is) found.1, (laws.item_found state item after found.1).0)
 
-pub more_than_none : {S : Type 0} (reading : S → List ℕ → Reading S) (item_is : S → Item S → List ℕ → Type 0) (fault_is : S → List ℕ → Cause → Type 0) (laws : IsFront reading item_is fault_is)
+pub more_than_none : {S : Type 0} (reading : S → List ℕ → Reading S) (item_is : S → Item S → List ℕ → Type 0) (fault_is : S → List ℕ → Cause → Type 0) (laws : ReadsItems reading item_is fault_is)
     (text : List ℕ) (at : ℕ) (state : S) (item : Item S) (len : ℕ) → at < length text → item.bytes ≡ take len (drop at text) → reading state (drop at text) ≡ Found item (drop len (drop at text)) → 1 ≤ len
 more_than_none reading item_is fault_is laws text at state item len low is read =
     let some : 1 ≤ length (drop at text) = omega (arith, length-drop at text) in
@@ -65,7 +65,7 @@ more_than_none reading item_is fault_is laws text at state item len low is read 
     let one = (laws.item_found state item (drop len (drop at text)) found.1).0 in
     omega (arith, one, ap length is, length-take len (drop at text))
 
-pub progress_more : {S : Type 0} (reading : S → List ℕ → Reading S) (item_is : S → Item S → List ℕ → Type 0) (fault_is : S → List ℕ → Cause → Type 0) (laws : IsFront reading item_is fault_is)
+pub progress_more : {S : Type 0} (reading : S → List ℕ → Reading S) (item_is : S → Item S → List ℕ → Type 0) (fault_is : S → List ℕ → Cause → Type 0) (laws : ReadsItems reading item_is fault_is)
     (start : S) (text : List ℕ) (at : ℕ) (state : S) (built : Built) (p : Progress item_is start text at state built) (item : Item S) (len : ℕ) (new : Built) → at < length text → len ≤ length (drop at text)
     → item.bytes ≡ take len (drop at text) → reading state (drop at text) ≡ Found item (drop len (drop at text)) → built.slots + slots_of (item.given ∷ []) ≤ 128
     → Builds item.given built new → Progress item_is start text (at + len) item.state new
@@ -81,13 +81,13 @@ progress_more reading item_is fault_is laws start text at state built p item len
       built_is = subst (λ (gs : List Given). IsBuilt gs new) (sym (given_of-more p.items item)) (grown (given_of p.items) p.built_is);
     }
 
-pub fails_here : {S : Type 0} (reading : S → List ℕ → Reading S) (item_is : S → Item S → List ℕ → Type 0) (fault_is : S → List ℕ → Cause → Type 0) (laws : IsFront reading item_is fault_is)
+pub fails_here : {S : Type 0} (reading : S → List ℕ → Reading S) (item_is : S → Item S → List ℕ → Type 0) (fault_is : S → List ℕ → Cause → Type 0) (laws : ReadsItems reading item_is fault_is)
     (start : S) (text : List ℕ) (at : ℕ) (state : S) (built : Built) (p : Progress item_is start text at state built) (cause : Cause) → at < length text → reading state (drop at text) ≡ Failed cause → Faulty item_is fault_is start text at cause
 fails_here reading item_is fault_is laws start text at state built p cause low read =
     let some : 1 ≤ length (drop at text) = omega (arith, length-drop at text) in
     no_item p.items (drop at text) p.begins p.at_is (subst (λ (s : _). fault_is s (drop at text) cause) (sym p.state_is) (laws.failed state (drop at text) cause some read))
 
-pub fails_full : {S : Type 0} (reading : S → List ℕ → Reading S) (item_is : S → Item S → List ℕ → Type 0) (fault_is : S → List ℕ → Cause → Type 0) (laws : IsFront reading item_is fault_is)
+pub fails_full : {S : Type 0} (reading : S → List ℕ → Reading S) (item_is : S → Item S → List ℕ → Type 0) (fault_is : S → List ℕ → Cause → Type 0) (laws : ReadsItems reading item_is fault_is)
     (start : S) (text : List ℕ) (at : ℕ) (state : S) (built : Built) (p : Progress item_is start text at state built) (item : Item S) (after : List ℕ) → at < length text
     → reading state (drop at text) ≡ Found item after → 128 < built.slots + slots_of (item.given ∷ []) → Faulty item_is fault_is start text at TooManySlots
 fails_full reading item_is fault_is laws start text at state built p item after low read many =

@@ -3,7 +3,7 @@ use Rattle.std.specs.Prelude.{◌≡◌, ℕ, List, [], ◌∷◌, ◌++◌}
 use Rattle.lf_spelling.specs.Pieces.{with_literal, pieces_of, slots_of}
 use Rattle.lf_format.specs.declared.format.Piece.{Piece}
 use Rattle.lf_format.specs.declared.format.Piece.TheVariants as piece
-use Rattle.lf_spelling.specs.declared.front.Given.{Given}
+use Rattle.lf_spelling.specs.declared.item_reader.Given.{Given}
 use Rattle.lf_spelling.specs.declared.built.Built.{Built}
 
 -- the literal that still grows, before what comes

@@ -1,4 +1,4 @@
--- A part between two brackets at the front of a text, or none.
+-- A part between two brackets at the start of a text, or none.
 use Rattle.std.specs.Prelude.{◌≡◌, ℕ, ◌==◌, not, Bool, true, false, List, [], ◌∷◌, ◌++◌, Option, Some, None, IfSome, if◌then◌else◌}
 use Rattle.std.specs.List.{list_all}
 use Rattle.lf_spelling.specs.Runs.{run, past}

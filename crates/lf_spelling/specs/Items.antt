@@ -1,6 +1,6 @@
 -- Items that stand one after the other in a text.
 use Rattle.std.specs.Prelude.{ℕ, List, [], ◌∷◌, ◌++◌}
-use Rattle.lf_spelling.specs.declared.front.Given.{Given}
+use Rattle.lf_spelling.specs.declared.item_reader.Given.{Given}
 use Rattle.lf_spelling.specs.declared.fault.Cause.{Cause}
 
 -- An item: its bytes, what it gives, and the state after it.
@@ -9,7 +9,7 @@ pub record Item (State : Type 0) : Type 0 where
   pub given : Given
   pub state : State
 
--- What a reader finds at the front of a text: an item and the bytes after it, or no item for a cause.
+-- What a reader finds at the start of a text: an item and the bytes after it, or no item for a cause.
 pub data Reading (State : Type 0) : Type 0 where
   Found : Item State → List ℕ → Reading State
   Failed : Cause → Reading State

@@ -1,9 +1,10 @@
+-- The definitions and laws of how a text spells a format, item by item.
 pub mod Numbers
 pub mod Cuts
 pub mod Pieces
 pub mod Items
 pub mod ItemLaws
-pub mod Fronts
+pub mod ItemReaders
 pub mod Spelling
 pub mod Building
 pub mod Runs

@@ -2,8 +2,8 @@
 use Rattle.std.specs.Prelude.{ℕ, ◌+◌, List, [], ◌∷◌, ◌++◌, codes}
 use Rattle.lf_format.specs.declared.format.Piece.{Piece}
 use Rattle.lf_format.specs.declared.format.Piece.TheVariants as piece
-use Rattle.lf_spelling.specs.declared.front.Given.{Given}
-use Rattle.lf_spelling.specs.declared.front.Given.TheVariants.{Nothing, Byte, Slot, Spaced, Braced}
+use Rattle.lf_spelling.specs.declared.item_reader.Given.{Given}
+use Rattle.lf_spelling.specs.declared.item_reader.Given.TheVariants.{Nothing, Byte, Slot, Spaced, Braced}
 
 -- a literal before other pieces: it joins one that it touches
 abbrev pub with_literal : List ℕ → List Piece → List Piece

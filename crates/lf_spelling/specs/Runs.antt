@@ -1,4 +1,4 @@
--- The longest run of bytes at the front of a text, and what follows it.
+-- The longest run of bytes at the start of a text, and what follows it.
 use Rattle.std.specs.Prelude.{ℕ, not, Bool, true, List, [], ◌∷◌, if◌then◌else◌}
 
 -- the longest run of bytes that pass the test

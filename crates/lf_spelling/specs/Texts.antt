@@ -1,4 +1,4 @@
--- The front of a text.
+-- The start of a text.
 use Rattle.std.specs.Prelude.{ℕ, ◌==◌, ◌&&◌, nat_le, Bool, true, false, List, [], ◌∷◌}
 
 -- a decimal digit

@@ -1,11 +1,11 @@
 //! Pieces as they are put together from the left.
 
 ghost use Rattle.std.specs.Prelude.{◌≡◌, ◌+◌, ◌<◌, ◌^◌, List, [], OnOk, IfOk};
-ghost use Rattle.lf_spelling.specs.declared.front.Given.{Given};
+ghost use Rattle.lf_spelling.specs.declared.item_reader.Given.{Given};
 ghost use Rattle.lf_spelling.specs.Pieces.{pieces_of};
 ghost use Rattle.lf_spelling.specs.Building.{IsBuilt, Builds, IsClosed};
 
-use crate::front::Given;
+use crate::item_reader::Given;
 use lf_core::{Bytes, OutOfMemory};
 use lf_format::{Piece, Slot};
 use std::alloc::Global;

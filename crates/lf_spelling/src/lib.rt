@@ -3,9 +3,9 @@
 
 mod built;
 mod fault;
-mod front;
+mod item_reader;
 mod text;
 
 pub use fault::{Cause, FormatFault, ItemFault};
-pub use front::{Front, Given, Taken, one_answer, read_text};
+pub use item_reader::{Given, ItemReader, Taken, one_answer, read_text};
 pub use text::{Cut, cut_before, cut_part, spelled};

@@ -26,14 +26,14 @@ pub fn cut_before(text: &[u8], byte: u8) -> (&[u8], &[u8])
     text.split_at(len_before(text, byte))
 }
 
-/// A text that is taken apart: the part between two brackets at its front, or none, and what follows.
+/// A text that is taken apart: the part between two brackets at its start, or none, and what follows.
 #[derive(Clone, Copy)]
 pub struct Cut<'a> {
     pub part: Option<&'a [u8]>,
     pub rest: &'a [u8],
 }
 
-/// Takes the part between two brackets off the front. None: a bracket is left open.
+/// Takes the part between two brackets off the start. None: a bracket is left open.
 pub fn cut_part(text: &[u8], opening: u8, closing: u8) -> Option<Cut<'_>>
     ensures { MatchOption result (is_unclosed opening closing text.now ≡ true) (λ cut. IsPart opening closing text.now (option_copied cut.part) cut.rest.now) }
 {
@@ -69,5 +69,5 @@ pub fn spelled(alloc: Global, sign: &str, rest: &[u8]) -> Result<Str, OutOfMemor
     };
     let mut name = String::from_str(alloc, sign)?;
     name.push_str(rest)?;
-    Str::of(alloc, name.as_str())
+    Ok(Str::from_string(name))
 }

@@ -20,7 +20,7 @@ pub record Searched (old new : Lines) : Type 0 where
   pub same : SameStream old new
   pub fed : new.fed ≡ old.fed
   pub given : new.given ≡ old.given
-  pub front : new.front ≡ old.front
+  pub first_sort : new.first_sort ≡ old.first_sort
   pub bytes : held_bytes new.buffer ≡ held_bytes old.buffer
   pub end : new.buffer.end ≡ old.buffer.end
 
@@ -35,7 +35,7 @@ stands_searched old new stream n e s = record {
   number = e.given ∙ s.number;
   count = s.count;
   goes = goes_as old.finished new.finished stream s.given s.rest e.same.finished s.goes;
-  holds = rw (e.same.notes, e.front, e.bytes) s.holds;
+  holds = rw (e.same.notes, e.first_sort, e.bytes) s.holds;
 }
 
 -- The next line stands before one place, and the rest begins at another.
@@ -47,14 +47,14 @@ pub record HasNext (l : Lines) (stream : List ℕ) (n to next : ℕ) : Type 0 wh
   pub number : l.given ≡ n
   pub count : length given ≡ n
   pub goes : Goes l.finished stream (given ++ line ∷ []) later
-  pub holds : Holds l.notes l.front (slice_range l.buffer.bytes.items l.buffer.start to) line
+  pub holds : Holds l.notes l.first_sort (slice_range l.buffer.bytes.items l.buffer.start to) line
   pub later_is : slice_range l.buffer.bytes.items next l.buffer.end ≡ later
 
 pub next_ended : (l : Lines) (stream : List ℕ) (n at : ℕ) → FeedsAt l.buffer at → Stands l stream n → HasNext l stream n at (at + 1)
 next_ended l stream n at f s =
     let line = slice_range l.buffer.bytes.items l.buffer.start at in
     let later = slice_range l.buffer.bytes.items (at + 1) l.buffer.end in
-    let front = holds_front l.notes l.front line (10 ∷ later) s.rest f.unended (subst (λ bytes. Holds l.notes l.front bytes s.rest) f.joined s.holds) in
+    let front = holds_front l.notes l.first_sort line (10 ∷ later) s.rest f.unended (subst (λ bytes. Holds l.notes l.first_sort bytes s.rest) f.joined s.holds) in
     record {
       given = s.given;
       line = front.line;
@@ -72,12 +72,12 @@ held_length l =
     let b = l.buffer in
     omega (arith, length-between b.bytes.items b.start b.end (omega (arith, b.whole, b.within)), b.from, b.to)
 
-pub next_last : (l : Lines) (stream : List ℕ) (n : ℕ) → l.finished ≡ true → HasNoFeed (held_bytes l.buffer) → l.buffer.start + 1 ≤ l.buffer.end + least_dropped l.front → Stands l stream n → HasNext l stream n l.buffer.end l.buffer.end
+pub next_last : (l : Lines) (stream : List ℕ) (n : ℕ) → l.finished ≡ true → HasNoFeed (held_bytes l.buffer) → l.buffer.start + 1 ≤ l.buffer.end + least_dropped l.first_sort → Stands l stream n → HasNext l stream n l.buffer.end l.buffer.end
 next_last l stream n over none some s =
     let bytes = held_bytes l.buffer in
-    let front = holds_front l.notes l.front bytes [] s.rest none (subst (λ zs. Holds l.notes l.front zs s.rest) (sym (append-nil bytes)) s.holds) in
+    let front = holds_front l.notes l.first_sort bytes [] s.rest none (subst (λ zs. Holds l.notes l.first_sort zs s.rest) (sym (append-nil bytes)) s.holds) in
     let is : s.rest ≡ front.line = front.joined ∙ append-nil front.line in
-    let more : 0 < length front.line = holds_some l.notes l.front bytes front.line front.holds (omega (arith, some, held_length l)) in
+    let more : 0 < length front.line = holds_some l.notes l.first_sort bytes front.line front.holds (omega (arith, some, held_length l)) in
     record {
       given = s.given;
       line = front.line;
@@ -98,7 +98,7 @@ stands_next old new stream n to next t h = record {
   number = omega (arith, t.given, h.number);
   count = omega (arith, h.count, length-append h.given (h.line ∷ []));
   goes = goes_as old.finished new.finished stream (h.given ++ h.line ∷ []) h.later t.same.finished h.goes;
-  holds = rw (t.same.notes, t.front, t.bytes, t.start, t.end) h.later_is;
+  holds = rw (t.same.notes, t.first_sort, t.bytes, t.start, t.end) h.later_is;
 }
 
 pub next_is : (l : Lines) (stream : List ℕ) (n to next : ℕ) (h : HasNext l stream n to next) → slice_get (known_lines l.finished l.notes stream) n ≡ Some (line_of l.notes h.line)
@@ -108,13 +108,13 @@ next_is l stream n to next h = next_known l.finished l.notes stream h.given h.li
 pub no_next_open : (l : Lines) (stream : List ℕ) (n : ℕ) → l.finished ≡ false → HasNoFeed (held_bytes l.buffer) → Stands l stream n → length (known_lines l.finished l.notes stream) ≡ n
 no_next_open l stream n going none s =
     let bytes = held_bytes l.buffer in
-    let front = holds_front l.notes l.front bytes [] s.rest none (subst (λ zs. Holds l.notes l.front zs s.rest) (sym (append-nil bytes)) s.holds) in
+    let front = holds_front l.notes l.first_sort bytes [] s.rest none (subst (λ zs. Holds l.notes l.first_sort zs s.rest) (sym (append-nil bytes)) s.holds) in
     none_whole l.finished l.notes stream s.given s.rest n going s.goes s.count (subst HasNoFeed (sym (front.joined ∙ append-nil front.line)) front.unended)
 
 -- Nothing is held.
-pub no_next_left : (l : Lines) (stream : List ℕ) (n : ℕ) → l.buffer.end + least_dropped l.front < l.buffer.start + 1 → Stands l stream n → length (known_lines l.finished l.notes stream) ≡ n
+pub no_next_left : (l : Lines) (stream : List ℕ) (n : ℕ) → l.buffer.end + least_dropped l.first_sort < l.buffer.start + 1 → Stands l stream n → length (known_lines l.finished l.notes stream) ≡ n
 no_next_left l stream n none s =
-    none_left l.finished l.notes stream s.given s.rest n s.goes s.count (holds_none l.notes l.front (held_bytes l.buffer) s.rest s.holds (omega (arith, none, held_length l)))
+    none_left l.finished l.notes stream s.given s.rest n s.goes s.count (holds_none l.notes l.first_sort (held_bytes l.buffer) s.rest s.holds (omega (arith, none, held_length l)))
 
 pub moves_next : (old mid new : Lines) (to next : ℕ) → HasTaken mid new next → Searched old mid → ((stream : List ℕ) (n : ℕ) → Stands mid stream n → HasNext mid stream n to next) → MovesOn old new 1
 moves_next old mid new to next t e has = record {
@@ -125,7 +125,7 @@ moves_next old mid new to next t e has = record {
 }
 
 pub marks_next : (old mid new : Lines) (to next : ℕ) (stream : List ℕ) (n : ℕ) (mark : Mark) → HasTaken mid new next → Searched old mid → ((stream : List ℕ) (n : ℕ) → Stands mid stream n → HasNext mid stream n to next) → mark.number ≡ mid.given + 1
-    → ((line : List ℕ) → Holds mid.notes mid.front (slice_range mid.buffer.bytes.items mid.buffer.start to) line → IsMark mid.notes mid.buffer.bytes.items (line_of mid.notes line) mark)
+    → ((line : List ℕ) → Holds mid.notes mid.first_sort (slice_range mid.buffer.bytes.items mid.buffer.start to) line → IsMark mid.notes mid.buffer.bytes.items (line_of mid.notes line) mark)
     → Stands old stream n → IsNextMark old.notes new.buffer.bytes.items (known_lines old.finished old.notes stream) n (Some mark)
 marks_next old mid new to next stream n mark t e has number marks s =
     let h = has stream n (stands_searched old mid stream n e s) in
@@ -140,7 +140,7 @@ marks_next old mid new to next stream n mark t e has number marks s =
     )
 
 -- What was held of a line is dropped.
-pub stands_dropped : (old new : Lines) (stream : List ℕ) (n : ℕ) → SameStream old new → new.fed ≡ old.fed → new.given ≡ old.given → new.front ≡ settled_sort old → settled_sort old ≢ Line → held_bytes new.buffer ≡ [] → HasNoFeed (held_bytes old.buffer) → Stands old stream n → Stands new stream (n + 0)
+pub stands_dropped : (old new : Lines) (stream : List ℕ) (n : ℕ) → SameStream old new → new.fed ≡ old.fed → new.given ≡ old.given → new.first_sort ≡ settled_sort old → settled_sort old ≢ Line → held_bytes new.buffer ≡ [] → HasNoFeed (held_bytes old.buffer) → Stands old stream n → Stands new stream (n + 0)
 stands_dropped old new stream n same fed given front other empty none s = record {
   given = s.given;
   rest = s.rest;
@@ -148,7 +148,7 @@ stands_dropped old new stream n same fed given front other empty none s = record
   number = omega (arith, given, s.number);
   count = omega (arith, s.count);
   goes = goes_as old.finished new.finished stream s.given s.rest same.finished s.goes;
-  holds = rw (same.notes, front, empty) (holds_by old.notes old.front (held_bytes old.buffer) s.rest other none s.holds);
+  holds = rw (same.notes, front, empty) (holds_by old.notes old.first_sort (held_bytes old.buffer) s.rest other none s.holds);
 }
 
 -- The stream moves on, and then nothing is taken.

@@ -26,7 +26,7 @@ pub length_put : (xs ys : List ℕ) (e k : ℕ) → e + k ≤ length xs → leng
 length_put xs ys e k high is =
     omega (arith, length-append (take e xs) (ys ++ drop k (drop e xs)), length-append ys (drop k (drop e xs)), length-drop k (drop e xs), length-drop e xs, length-take-le e xs (omega arith))
 
--- A part is its front and its rest.
+-- A part is its start and its rest.
 pub span_join : (xs : List ℕ) (i j k : ℕ) → i ≤ j → j ≤ k → slice_range xs i k ≡ slice_range xs i j ++ slice_range xs j k
 span_join xs i j k low high =
     append_cancel_right (slice_range xs i k) (slice_range xs i j ++ slice_range xs j k) (drop k xs)

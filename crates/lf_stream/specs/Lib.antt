@@ -1,3 +1,4 @@
+-- The definitions of the lines of a stream, and of how far they are given.
 pub mod Cut
 pub mod Sorts
 pub mod Held

@@ -20,7 +20,7 @@ least_dropped Line = 0
 least_dropped Note = 1
 least_dropped Long = 1
 
--- Bytes were dropped from the front of a line of this sort, so many that its sort is settled.
+-- Bytes were dropped from the start of a line of this sort, so many that its sort is settled.
 pub record Drops (notes : Bool) (sort : Sort) (bytes rest : List ℕ) : Type 0 where
   pub dropped : List ℕ
   pub joined : rest ≡ dropped ++ bytes

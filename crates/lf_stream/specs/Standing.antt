@@ -47,7 +47,7 @@ pub record Stands (l : Lines) (stream : List ℕ) (n : ℕ) : Type 0 where
   pub number : l.given ≡ n
   pub count : length given ≡ n
   pub goes : Goes l.finished stream given rest
-  pub holds : Holds l.notes l.front (held_bytes l.buffer) rest
+  pub holds : Holds l.notes l.first_sort (held_bytes l.buffer) rest
 
 -- The stream is one with notes, and has ended, as before.
 pub record SameStream (old new : Lines) : Type 0 where
@@ -59,7 +59,7 @@ pub record HasTaken (old new : Lines) (next : ℕ) : Type 0 where
   pub same : SameStream old new
   pub fed : new.fed ≡ old.fed
   pub given : new.given ≡ old.given + 1
-  pub front : new.front ≡ sort.Line
+  pub first_sort : new.first_sort ≡ sort.Line
   pub bytes : new.buffer.bytes ≡ old.buffer.bytes
   pub marks : new.marks ≡ old.marks
   pub start : new.buffer.start ≡ next
@@ -84,7 +84,7 @@ settled_by notes sort.Note bytes = sort.Note
 settled_by notes sort.Long bytes = sort.Long
 
 abbrev pub settled_sort : Lines → Sort
-settled_sort l = settled_by l.notes l.front (held_bytes l.buffer)
+settled_sort l = settled_by l.notes l.first_sort (held_bytes l.buffer)
 
 -- Where there was no line, there is much room.
 abbrev pub HasRoomAtNone : {X : Type 0} → Option X → Lines → Type 0

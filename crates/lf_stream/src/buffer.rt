@@ -74,7 +74,7 @@ impl Buffer {
         self.scanned = to;
     }
 
-    /// Moves the bytes to the front where little room is left behind them.
+    /// Moves the bytes to the start where little room is left behind them.
     pub(crate) fn settle(&mut self)
         requires { self.old.end - self.old.start + least_room ≤ buffer_bytes }
         ensures bytes { held_bytes self.new ≡ held_bytes self.old }

@@ -20,7 +20,7 @@ const NO_MARK: Mark = Mark {
     sort: Sort::Line,
 };
 
-/// The lines of a stream, which is fed in pieces. `front` tells the sort of the first line that is held
+/// The lines of a stream, which is fed in pieces. `first_sort` tells the sort of the first line that is held
 /// where it is known to be a note or too long, and bytes of it were dropped.
 #[derive(Drop)]
 pub struct Lines {
@@ -28,12 +28,12 @@ pub struct Lines {
     finished: bool,
     fed: u64,
     given: u64,
-    front: Sort,
+    first_sort: Sort,
     buffer: Buffer,
     marks: Vec<Mark>,
     ghost room_for_marks: { length marks.items ≡ most_marks },
     ghost most: { fed ≤ most_run_bytes },
-    ghost counted: { given + least_dropped front + buffer.end ≤ fed + buffer.start },
+    ghost counted: { given + least_dropped first_sort + buffer.end ≤ fed + buffer.start },
 }
 
 impl Lines {
@@ -55,7 +55,7 @@ impl Lines {
             finished: false,
             fed: 0,
             given: 0,
-            front: Sort::Line,
+            first_sort: Sort::Line,
             buffer: Buffer::new(alloc)?,
             marks: vec![in alloc; NO_MARK; MOST_MARKS]?,
         })
@@ -105,11 +105,11 @@ impl Lines {
         requires from { self.old.buffer.start ≤ to }
         requires order { to ≤ next }
         requires within { next ≤ self.old.buffer.end }
-        requires some { self.old.buffer.start + 1 ≤ next + least_dropped self.old.front }
+        requires some { self.old.buffer.start + 1 ≤ next + least_dropped self.old.first_sort }
         ensures taken { HasTaken self.old self.new next }
         ensures number { result.number ≡ self.old.given + 1 }
         ensures within { result.start + result.len ≤ buffer_bytes }
-        ensures mark { (line : List ℕ) → Holds self.old.notes self.old.front (slice_range self.old.buffer.bytes.items self.old.buffer.start to) line
+        ensures mark { (line : List ℕ) → Holds self.old.notes self.old.first_sort (slice_range self.old.buffer.bytes.items self.old.buffer.start to) line
             → IsMark self.old.notes self.old.buffer.bytes.items (line_of self.old.notes line) result }
     {
         let start = self.buffer.start;
@@ -117,20 +117,20 @@ impl Lines {
         let mark = mark(
             self.given,
             self.notes,
-            self.front,
+            self.first_sort,
             &self.buffer.bytes[start..to],
             start,
         );
-        self.front = Sort::Line;
+        self.first_sort = Sort::Line;
         self.buffer.release(next);
         mark
     }
 
-    /// Whether bytes are held, or were dropped from the front of what is held.
+    /// Whether bytes are held, or were dropped from the start of what is held.
     fn has_rest(&self) -> bool
-        ensures { IsTrue result ↔ (self.now.buffer.start + 1 ≤ self.now.buffer.end + least_dropped self.now.front) }
+        ensures { IsTrue result ↔ (self.now.buffer.start + 1 ≤ self.now.buffer.end + least_dropped self.now.first_sort) }
     {
-        match self.front {
+        match self.first_sort {
             Sort::Line => self.buffer.start < self.buffer.end,
             _ => true,
         }
@@ -162,7 +162,7 @@ impl Lines {
     fn settled(&self) -> Sort
         ensures { result ≡ settled_sort self.now }
     {
-        match self.front {
+        match self.first_sort {
             Sort::Line => {
                 let bytes = &self.buffer.bytes[self.buffer.start..self.buffer.end];
                 if bytes.len() > MOST_LINE_BYTES + 1 {
@@ -176,7 +176,7 @@ impl Lines {
     }
 
     /// Drops the bytes of a line that isn't kept.
-    fn drop_front(&mut self)
+    fn drop_start(&mut self)
         requires { HasNoFeed (held_bytes self.old.buffer) }
         ensures moves { MovesOn self.old self.new 0 }
         ensures few { self.new.buffer.end ≤ self.new.buffer.start + most_line_bytes + 1 }
@@ -185,7 +185,7 @@ impl Lines {
         match front {
             Sort::Line => {}
             _ => {
-                self.front = front;
+                self.first_sort = front;
                 let end = self.buffer.end;
                 self.buffer.release(end);
             }
@@ -198,7 +198,7 @@ impl Lines {
         ensures moves { MovesOn self.old self.new 0 }
         ensures room { least_room ≤ room_of self.new }
     {
-        self.drop_front();
+        self.drop_start();
         self.buffer.settle();
     }
 

@@ -12,6 +12,7 @@ pub enum Sort {
 /// Of a note and of a long line no bytes are kept: `start` and `len` are 0.
 #[derive(Clone, Copy, Debug)]
 pub struct Mark {
+    /// The number of the line in its stream, counted from 1.
     pub number: u64,
     pub start: u32,
     pub len: u32,
@@ -36,6 +37,8 @@ pub struct Numbered<'a> {
 /// Lines of a stream, by marks of a text.
 #[derive(Clone, Copy, Debug)]
 pub struct Batch<'a> {
+    /// The bytes among which the lines stand.
     pub text: &'a [u8],
+    /// A mark for each line, in order.
     pub marks: &'a [Mark],
 }

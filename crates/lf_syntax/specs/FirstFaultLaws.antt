@@ -111,7 +111,7 @@ module _ (b : ℕ) where
         let e : cuts b (E ++ w) ≡ done ++ (w ∷ []) = cuts-ended P part-free done w each ∙ ap (λ (ps : List (List ℕ)). done ++ ps) (cuts-end b w (part-free w h)) in
         rejoined b (Nested rule d) part (E ++ w) (subst (λ (ps : List (List ℕ)). Each P ps) (sym e) all)
 
-    -- the front of the whole text that reaches so far into what is left
+    -- the prefix of the whole text that reaches so far into what is left
     reach : (rest r : List ℕ) (m : ℕ) → take (length E + m) (E ++ rest) ++ r ≡ E ++ (take m rest ++ r)
     reach rest r m = ap (λ (v : List ℕ). v ++ r) (take-append-add E rest m) ∙ append_assoc E (take m rest) r
 

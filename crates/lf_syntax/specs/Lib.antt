@@ -1,3 +1,4 @@
+-- The definitions and laws of grammars, and of the place where a text leaves one.
 pub mod Cause
 pub mod CutLaws
 pub mod Cuts

@@ -13,7 +13,7 @@ use std::alloc::{AllocError, Global};
 /// Why a text was refused.
 #[derive(Clone, Copy, Debug, PartialEq, Eq)]
 pub enum ScanFault {
-    /// It is no sentence: the length of its longest front that some sentence begins with.
+    /// It is no sentence: the length of its longest prefix that some sentence begins with.
     Syntax(u32),
     /// Memory ran out.
     OutOfMemory,

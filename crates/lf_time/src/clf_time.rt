@@ -1,3 +1,5 @@
+//! The domain of times as Apache and nginx write them.
+
 ghost use Rattle.std.specs.Prelude.{◌≡◌};
 ghost use Rattle.lf_layout.specs.Layouts.{HoldsMoment, moment_text};
 ghost use Rattle.lf_time.specs.TimeLayouts.{clf_layout};

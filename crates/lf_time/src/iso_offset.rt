@@ -1,3 +1,5 @@
+//! The domain of times as nginx writes them by ISO 8601.
+
 ghost use Rattle.std.specs.Prelude.{◌≡◌};
 ghost use Rattle.lf_layout.specs.Layouts.{HoldsMoment, moment_text};
 ghost use Rattle.lf_time.specs.TimeLayouts.{iso_offset_layout};

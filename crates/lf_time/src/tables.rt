@@ -216,6 +216,7 @@ const JSON: [Place; 29] = [
     Ones(OffsetMinute),
 ];
 
+/// The places of `W3cDate`.
 #[tactic(auto, using(lf_layout::specs::DomainLaws::day_placed))]
 pub fn iso_date() -> &'static [Place]
     ensures places { result.now ≡ iso_date_places }
@@ -224,6 +225,7 @@ pub fn iso_date() -> &'static [Place]
     &ISO_DATE
 }
 
+/// The places of `W3cClock`.
 #[tactic(auto, using(lf_layout::specs::DomainLaws::clock_placed))]
 pub fn clock() -> &'static [Place]
     ensures places { result.now ≡ clock_places }
@@ -232,6 +234,7 @@ pub fn clock() -> &'static [Place]
     &CLOCK
 }
 
+/// The places of `ClfTime`, in brackets or not.
 #[tactic(auto, using(crate::specs::TimeLaws::clf_placed))]
 pub fn clf(bracketed: bool) -> &'static [Place]
     ensures places { result.now ≡ layout_places (clf_layout bracketed) }
@@ -243,6 +246,7 @@ pub fn clf(bracketed: bool) -> &'static [Place]
     &PLAIN_CLF
 }
 
+/// The places of `IsoOffset`.
 #[tactic(auto, using(crate::specs::TimeLaws::iso_offset_placed))]
 pub fn iso_offset() -> &'static [Place]
     ensures places { result.now ≡ layout_places iso_offset_layout }
@@ -251,6 +255,7 @@ pub fn iso_offset() -> &'static [Place]
     &ISO_OFFSET
 }
 
+/// The places of `IsoMillisZ`.
 #[tactic(auto, using(crate::specs::TimeLaws::iso_millis_placed))]
 pub fn iso_millis() -> &'static [Place]
     ensures places { result.now ≡ layout_places iso_millis_layout }
@@ -259,6 +264,7 @@ pub fn iso_millis() -> &'static [Place]
     &ISO_MILLIS
 }
 
+/// The places of `HaTime`.
 #[tactic(auto, using(crate::specs::TimeLaws::ha_placed))]
 pub fn ha() -> &'static [Place]
     ensures places { result.now ≡ layout_places ha_layout }
@@ -267,6 +273,7 @@ pub fn ha() -> &'static [Place]
     &HA
 }
 
+/// The places of `JsonTime`.
 #[tactic(auto, using(crate::specs::TimeLaws::json_placed))]
 pub fn json() -> &'static [Place]
     ensures places { result.now ≡ layout_places json_layout }

@@ -1,3 +1,5 @@
+//! The domain of times of the day, as the W3C's draft and IIS write them.
+
 ghost use Rattle.lf_layout.specs.Layouts.{HoldsClock, time_text};
 ghost use Rattle.lf_layout.specs.Places.{clock_places, places_machine};
 

@@ -1,3 +1,5 @@
+//! The domain of days, as the W3C's draft and IIS write them.
+
 ghost use Rattle.lf_layout.specs.Layouts.{HoldsDay, day_text};
 ghost use Rattle.lf_layout.specs.Places.{iso_date_places, places_machine};
 

@@ -1,3 +1,4 @@
+-- The definitions of least lines and least runs.
 pub mod Runs
 pub mod Sets
 pub mod Open

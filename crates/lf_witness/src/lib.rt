@@ -2,6 +2,7 @@
 #![tactic(auto)]
 
 mod heads;
+/// Laws over the definitions: an ambiguous machine has a least witness, and a first byte a least line or none.
 pub mod laws;
 mod runs;
 mod second;

@@ -19,7 +19,9 @@ use std::alloc::Global;
 #[derive(Debug, Drop)]
 pub struct Witness {
     pub line: Bytes,
+    /// The least whole run on the line.
     pub left: Run,
+    /// The least of the others.
     pub right: Run,
 }
 

@@ -1,15 +1,16 @@
 -- The words of a command are texts within the limit.
-use Rattle.std.proofs.Common.{◌≡◌, ℕ, List, [], ◌∷◌, ◌≤◌, Bool, true, false, length, ◌&&◌, refl, ap, ◌∙◌, subst}
-use Rattle.std.specs.Prelude.{leb}
+use Rattle.std.proofs.Common.{◌≡◌, ℕ, List, [], ◌∷◌, ◌++◌, ◌≤◌, Bool, true, false, cond, length, codes, ◌&&◌, refl, sym, ap, ◌∙◌, subst, inl, inr}
+use Rattle.std.specs.Prelude.{leb, Option, None, Some}
+use Rattle.std.specs.Option.{ForSome}
 use Rattle.std.specs.List.{list_all}
-use Rattle.std.specs.Str.{is_utf8}
-use Rattle.std.proofs.lemmas.Bool.{leb-true}
+use Rattle.std.specs.Str.{bytes_eq, is_utf8}
+use Rattle.std.proofs.lemmas.Bool.{cases_Bool, leb-true}
 use Rattle.std.proofs.lemmas.Str.{IsUtf8-from_is_utf8}
 use Rattle.lf_limits.specs.Limits.{most_word_bytes}
 use Rattle.lf_words.specs.declared.command.Command.{Command}
 use Rattle.lf_words.specs.declared.command.Verb.{Verb}
 use Rattle.lf_words.specs.declared.command.Verb.TheVariants.{Check, Read, Write, Translate, Show, Gen}
-use Rattle.lf_words.specs.Command.{verb_text, front_text, option_words, is_word, IsWord, IsTail, IsCommand}
+use Rattle.lf_words.specs.Command.{Given, verb_text, front_text, option_words, value_of, is_word, IsWord, IsPlain, IsTail, IsCommand}
 
 pub both_true : (a b : Bool) → (a && b) ≡ true → (a ≡ true) × (b ≡ true)
 both_true true b e = (refl, e)
@@ -39,3 +40,68 @@ third_by Gen c tail words e h = third _ _ c.source.format (h.seed_text ∷ h.cou
 -- The format of a command is one of its words.
 pub format_word : (words : List (List ℕ)) (c : Command) → IsCommand words c → IsWord c.source.format
 format_word words c is = third_by c.verb c is.tail words is.spelled is.follows is.each
+
+-- ---- and so is its narrowing
+
+-- Words that follow others are words, where all are.
+later_words : (before after : List (List ℕ)) → list_all is_word (before ++ after) ≡ true → list_all is_word after ≡ true
+later_words [] after each = each
+later_words (word ∷ before) after each = later_words before after (both_true (is_word word) (list_all is_word (before ++ after)) each).1
+
+same_text : (a b : List ℕ) → Some a ≡ Some b → a ≡ b
+same_text a b e = cc
+
+nothing_given : (text : List ℕ) → None ≡ Some text → ⊥
+nothing_given text e = cc
+
+-- What is given under a name is one of the options' words.
+value_word : (name : List ℕ) (options : List Given) (text : List ℕ) → list_all is_word (option_words options) ≡ true → value_of name options ≡ Some text → IsWord text
+value_word name [] text each e = absurd (nothing_given text e)
+value_word name (option ∷ options) text each e =
+    let values = (both_true (is_word option.name) (list_all is_word (option.value ∷ option_words options)) each).1 in
+    let both = both_true (is_word option.value) (list_all is_word (option_words options)) values in
+    let found : (b : Bool) → bytes_eq option.name name ≡ b → cond b (Some option.value) (value_of name options) ≡ Some text =
+    λ b t. subst (λ (x : Bool). cond x (Some option.value) (value_of name options) ≡ Some text) t e in
+    elim (cases_Bool (bytes_eq option.name name)) [
+      | inl t ↦ subst IsWord (same_text option.value text (found true t)) (word_of option.value both.0)
+      | inr f ↦ value_word name options text both.1 (found false f)
+    ]
+
+-- Options whose words are words, and that say how the source is narrowed.
+record HasOptions (c : Command) : Type 0 where
+  pub options : List Given
+  pub each : list_all is_word (option_words options) ≡ true
+  pub narrow : c.source.narrow ≡ value_of (codes "--narrow") options
+
+-- The words of options that stand after others.
+options_after : (before options tail : List (List ℕ)) → tail ≡ before ++ options → list_all is_word tail ≡ true → list_all is_word options ≡ true
+options_after before options tail e each = later_words before options (subst (λ (w : List (List ℕ)). list_all is_word w ≡ true) e each)
+
+plain_options : (c : Command) (tail : List (List ℕ)) → IsPlain tail c → list_all is_word tail ≡ true → HasOptions c
+plain_options c tail h each = record {
+  options = h.options;
+  each = options_after (front_text c.source.front ∷ c.source.format ∷ []) (option_words h.options) tail h.spelled each;
+  narrow = h.says.narrow;
+}
+
+options_by : (verb : Verb) (c : Command) (tail : List (List ℕ)) → IsTail verb tail c → list_all is_word tail ≡ true → HasOptions c
+options_by Check c tail h each = plain_options c tail h each
+options_by Read c tail h each = plain_options c tail h each
+options_by Write c tail h each = plain_options c tail h each
+options_by Translate c tail h each = record {
+  options = h.options;
+  each = options_after (front_text c.source.front ∷ c.source.format ∷ front_text h.to.front ∷ h.to.format ∷ h.by ∷ []) (option_words h.options) tail h.spelled each;
+  narrow = h.says.narrow;
+}
+options_by Show c tail h each = plain_options c tail h each
+options_by Gen c tail h each = record {
+  options = h.options;
+  each = options_after (front_text c.source.front ∷ c.source.format ∷ h.seed_text ∷ h.count_text ∷ []) (option_words h.options) tail h.spelled each;
+  narrow = h.says.narrow;
+}
+
+-- The narrowing of a command, if one is given, is one of its words.
+pub narrowing_word : (words : List (List ℕ)) (c : Command) → IsCommand words c → ForSome {T = List ℕ} c.source.narrow IsWord
+narrowing_word words c is = λ text e.
+    let o = options_by c.verb c is.tail is.follows (options_after (verb_text c.verb ∷ []) is.tail words is.spelled is.each) in
+    value_word (codes "--narrow") o.options text o.each (sym o.narrow ∙ e)

@@ -5,25 +5,40 @@ use lf_core::Str;
 /// What is to be done.
 #[derive(Clone, Copy, Debug, PartialEq, Eq)]
 pub enum Verb {
+    /// Says whether the format is readable.
     Check,
+    /// Reads lines, and writes their records as JSON.
     Read,
+    /// Reads records in JSON, and writes their lines.
     Write,
+    /// Reads lines of the source, and writes lines of the target.
     Translate,
+    /// Shows the slots of the format.
     Show,
+    /// Generates records from a seed.
     Gen,
 }
 
 /// The notation that a format is spelled in.
 #[derive(Clone, Copy, Debug, PartialEq, Eq)]
 pub enum Front {
+    /// The text of Apache's `LogFormat`.
     Apache,
+    /// The text of nginx's `log_format` with `escape=default`.
     Nginx,
+    /// The same with `escape=json`.
     NginxJson,
+    /// The same with `escape=none`.
     NginxNone,
+    /// The whole directive, `log_format NAME .. ;`.
     NginxDirective,
+    /// The text of HAProxy's `log-format`.
     Haproxy,
+    /// The text of Envoy's access log format.
     Envoy,
+    /// The fields of a log by the W3C's draft.
     W3c,
+    /// The fields of a log of IIS.
     Iis,
 }
 
@@ -42,7 +57,10 @@ pub struct Command {
     pub source: Side,
     pub target: Option<Side>,
     pub map: Option<Str>,
+    /// 0 where the verb has none.
     pub seed: u64,
+    /// How many records are generated; 0 where the verb has none.
     pub count: u32,
+    /// How many jobs share the lines; 1 where the words say none.
     pub jobs: u32,
 }

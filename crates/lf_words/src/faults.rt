@@ -8,8 +8,10 @@ use thiserror::Error;
 /// Why no command was read.
 #[derive(Debug, Drop, Error)]
 pub enum WordFault {
+    /// The words are no command.
     #[error("bad command line")]
     Bad,
+    /// Memory ran out, and the words may be a command or not.
     #[error("out of memory")]
     OutOfMemory,
 }

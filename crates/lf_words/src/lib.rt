@@ -3,6 +3,7 @@
 
 mod command;
 mod faults;
+/// Laws over the definitions: words are one command or bad, and the format is a word.
 pub mod laws;
 mod names;
 mod numbers;

@@ -29,9 +29,10 @@ read¶apache¶%r¦a¶¶b␍¦3¦["a"]¶[""]¶¦unread 3¶
 read¶apache¶%h¦¶¶a¶¶¦3¦["a"]¶¦unread 1¶unread 2¶unread 4¶
 gen¶apache¶%h¶1¶1¦200¶¦2¦¦logfmt: not built¶
 translate¶apache¶%h¶apache¶%h¶¦200¶¦2¦¦logfmt: not built¶
-show¶apache¶%h¶--narrow¶s1:present¦200¶¦2¦¦logfmt: not built¶
-read¶apache¶%s ¶--narrow¶x¦200¶¦2¦¦logfmt: not built¶
-check¶iis¶date¶--narrow¶s1:present¦200¶¦2¦¦logfmt: not built¶
+gen¶apache¶%h¶1¶1¶--narrow¶x¦200¶¦2¦¦logfmt: not built¶
+show¶apache¶%h¶--narrow¶s1:present¦200¶¦0¦s1 %h text dash¶¦
+read¶apache¶%s ¶--narrow¶x¦200¶¦2¦¦logfmt: source narrowing: Syntax at 0¶
+check¶iis¶date¶--narrow¶s1:present¦200¶¦0¦readable 1¶¦
 ¦200¶¦2¦¦logfmt: bad command line¶
 read¦200¶¦2¦¦logfmt: bad command line¶
 read¶apache¦200¶¦2¦¦logfmt: bad command line¶
@@ -104,6 +105,26 @@ read¶iis¶sc-status cs(User-Agent)¦200 a␍¶¦1¦¦ambiguous¶line "- +"¶fir
 write¶iis¶date sc-status¦["2000-10-10",200]¶[null,null]¶¦0¦2000-10-10 200␍¶- -␍¶¦
 show¶iis¶cs-uri-stem sc-bytes¦¦0¦s1 cs-uri-stem text dash¶s2 sc-bytes number dash¶¦
 read¶apache¶%U¦a\nb¶a\x0ab¶\xff¶¦3¦["a\nb"]¶[{"hex":"ff"}]¶¦unread 2¶
+check¶iis¶sc-status cs(User-Agent)¶--narrow¶s2:not +¦200 a␍¶¦0¦readable 2¶¦
+read¶iis¶sc-status cs(User-Agent)¶--narrow¶s2:not +¦200 a+b␍¶200 a b␍¶¦3¦[200,"a b"]¶¦unread 2¶
+read¶iis¶date time s-ip cs-method cs-uri-stem cs-uri-query s-port cs-username c-ip cs(User-Agent) cs(Referer) sc-status sc-substatus sc-win32-status time-taken¶--narrow¶*:not +¦2000-10-10 20:55:36 10.0.0.1 GET /a - 80 - 10.0.0.2 Mozilla/5.0+(x) - 200 0 0 15␍¶¦0¦["2000-10-10","20:55:36","10.0.0.1","GET","/a",null,80,null,"10.0.0.2","Mozilla/5.0 (x)",null,200,0,0,15]¶¦
+check¶apache¶%{A}i¶--narrow¶s1:len 0..400¦¦7¦¦logfmt: size 5619 over 4096¶
+check¶apache¶%B¶--narrow¶s1:range -5..-1¦¦2¦¦logfmt: source narrowing: Empty s1¶
+check¶apache¶%B¶--narrow¶s2:present¦¦2¦¦logfmt: source narrowing: NoSlot s2¶
+check¶apache¶%B¶--narrow¶s1:not +¦¦2¦¦logfmt: source narrowing: WrongKind s1¶
+check¶apache¶%B¶--narrow¶s1;¦¦2¦¦logfmt: source narrowing: Syntax at 2¶
+check¶apache¶%h%u¶--narrow¶s1:len 1..1¦¦0¦readable 2¶¦
+check¶envoy¶[%START_TIME%] "%REQ(:METHOD)% %REQ(X-ENVOY-ORIGINAL-PATH?:PATH)% %PROTOCOL%" %RESPONSE_CODE% %RESPONSE_FLAGS% %BYTES_RECEIVED% %BYTES_SENT% %DURATION% %RESP(X-ENVOY-UPSTREAM-SERVICE-TIME)% "%REQ(X-FORWARDED-FOR)%" "%REQ(USER-AGENT)%" "%REQ(X-REQUEST-ID)%" "%REQ(:AUTHORITY)%" "%UPSTREAM_HOST%"¶--narrow¶*:not "¦¦0¦readable 15¶¦
+read¶envoy¶[%START_TIME%] "%REQ(:METHOD)% %REQ(X-ENVOY-ORIGINAL-PATH?:PATH)% %PROTOCOL%" %RESPONSE_CODE% %RESPONSE_FLAGS% %BYTES_RECEIVED% %BYTES_SENT% %DURATION% %RESP(X-ENVOY-UPSTREAM-SERVICE-TIME)% "%REQ(X-FORWARDED-FOR)%" "%REQ(USER-AGENT)%" "%REQ(X-REQUEST-ID)%" "%REQ(:AUTHORITY)%" "%UPSTREAM_HOST%"¶--narrow¶*:not "¦[2016-04-15T20:17:00.310Z] "POST /api/v1/locations HTTP/2" 204 - 154 0 226 100 "10.0.35.28" "nsq2http" "cc21d9b0-cf5c-432b-8c7e-98aeb7988cd2" "locations" "tcp://10.0.2.1:80"¶¦0¦["2016-04-15T20:17:00.310+00:00","POST","/api/v1/locations","HTTP/2",204,null,154,0,226,"100","10.0.35.28","nsq2http","cc21d9b0-cf5c-432b-8c7e-98aeb7988cd2","locations","tcp://10.0.2.1:80"]¶¦
+read¶apache¶%B %s¶--narrow¶s1:range 1..10;s2:present;s1:range 5..20¦5 200¶4 200¶10 200¶11 200¶7 -¶¦3¦[5,200]¶[10,200]¶¦unread 2¶unread 4¶unread 5¶
+write¶apache¶%h %s¶--narrow¶s1:len ..3¦¦2¦¦logfmt: source narrowing: Syntax at 7¶
+write¶apache¶%h %s¶--narrow¶s1:len 0..3;s2:range 200..299¦["abc",200]¶["abcd",200]¶["abc",300]¶[null,null]¶¦3¦abc 200¶- -¶¦bad 2 WrongValue s1¶bad 3 WrongValue s2¶
+read¶apache¶%B%¶--narrow¶x¦1¶¦2¦¦logfmt: source format: Unclosed at 2¶
+check¶apache¶%{A}i¶--narrow¶s1:len 0..400;s2:present¦¦2¦¦logfmt: source narrowing: NoSlot s2¶
+check¶iis¶cs-method sc-status¶--narrow¶s1:not #¦¦0¦readable 2¶¦
+check¶iis¶cs-method sc-status¶--narrow¶s2:present¦¦2¦¦logfmt: note line: ["#",0]¶
+show¶iis¶date cs(Referer)¶--narrow¶*:only a;*:present¦¦0¦s1 date day dash¶s2 cs(Referer) text dash¶¦
+read¶nginx¶$a¶--narrow¶¦1¶¦2¦¦logfmt: source narrowing: Syntax at 0¶
 "##;
 
 /// The text that a part of a row stands for.

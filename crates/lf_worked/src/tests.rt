@@ -1,3 +1,5 @@
+//! Examples that take more than a row: all directives of Apache, failing streams, long lines and long formats.
+
 use crate::examples::{SOUND, Seen, Streams, expect, run_bytes, run_text};
 use lf_core::{Bytes, OutOfMemory, Str};
 use lf_limits::MOST_LINE_BYTES;
@@ -169,10 +171,11 @@ fn long_lines_of_json(rt: HostRuntime) -> Result<(), Fail> {
     Ok(())
 }
 
-/// What `show` answers for a format of so many letters.
-fn shown_letters<R: Threads + Sync>(
+/// What the verb answers for a format of so many letters.
+fn letters_format<R: Threads + Sync>(
     rt: &R,
     alloc: Global,
+    verb: &str,
     count: usize,
 ) -> Result<Seen, OutOfMemory> {
     let mut letters = Bytes::new(alloc);
@@ -182,15 +185,53 @@ fn shown_letters<R: Threads + Sync>(
     let Ok(format) = str::from_utf8(letters.as_slice()) else {
         return Err(OutOfMemory);
     };
-    let words = apache_words(alloc, "show", format)?;
+    let words = apache_words(alloc, verb, format)?;
     run_bytes(rt, alloc, &words, Bytes::new(alloc), SOUND)
 }
 
 #[test]
 fn formats_of_many_letters(rt: HostRuntime) -> Result<(), Fail> {
-    let seen = shown_letters(&rt, rt.alloc(), MOST_LINE_BYTES)?;
+    let seen = letters_format(&rt, rt.alloc(), "show", MOST_LINE_BYTES)?;
     assert!(rt; expect(&seen, 0, "", "").is_ok());
-    let seen = shown_letters(&rt, rt.alloc(), MOST_LINE_BYTES + 1)?;
+    let seen = letters_format(&rt, rt.alloc(), "show", MOST_LINE_BYTES + 1)?;
+    assert!(rt; expect(&seen, 2, "", "logfmt: bad command line\n").is_ok());
+    Ok(())
+}
+
+#[test]
+fn formats_at_the_limit_of_the_size(rt: HostRuntime) -> Result<(), Fail> {
+    let seen = letters_format(&rt, rt.alloc(), "check", 4094)?;
+    assert!(rt; expect(&seen, 0, "readable 0\n", "").is_ok());
+    let seen = letters_format(&rt, rt.alloc(), "check", 4095)?;
+    assert!(rt; expect(&seen, 7, "", "logfmt: size 4097 over 4096\n").is_ok());
+    Ok(())
+}
+
+/// What `show` answers for a format that is narrowed by a text of so many letters.
+fn letters_narrowing<R: Threads + Sync>(
+    rt: &R,
+    alloc: Global,
+    count: usize,
+) -> Result<Seen, OutOfMemory> {
+    let mut letters = Bytes::new(alloc);
+    letters.extend(b"s1:not ")?;
+    for _k in 7..count {
+        letters.push(b'a')?;
+    }
+    let Ok(text) = str::from_utf8(letters.as_slice()) else {
+        return Err(OutOfMemory);
+    };
+    let mut words = apache_words(alloc, "show", "%h")?;
+    words.push(Str::of(alloc, "--narrow")?)?;
+    words.push(Str::of(alloc, text)?)?;
+    run_bytes(rt, alloc, &words, Bytes::new(alloc), SOUND)
+}
+
+#[test]
+fn narrowings_of_many_letters(rt: HostRuntime) -> Result<(), Fail> {
+    let seen = letters_narrowing(&rt, rt.alloc(), MOST_LINE_BYTES)?;
+    assert!(rt; expect(&seen, 0, "s1 %h text dash\n", "").is_ok());
+    let seen = letters_narrowing(&rt, rt.alloc(), MOST_LINE_BYTES + 1)?;
     assert!(rt; expect(&seen, 2, "", "logfmt: bad command line\n").is_ok());
     Ok(())
 }

@@ -6,4 +6,4 @@ mod table;
 mod written;
 
 pub use table::Table;
-pub use written::Written;
+pub use written::WrittenOut;

@@ -1,3 +1,4 @@
+//! The moves and ends of a machine, written out as a table.
 ghost use Rattle.std.specs.Prelude.{◌≡◌, ◌<◌, map, IfOk};
 ghost use Rattle.std.specs.List.{range_with_len};
 ghost use Rattle.lf_core.specs.Marked.{Machine};

@@ -1,3 +1,4 @@
+//! A machine beside its table, as a machine of its own.
 ghost use Rattle.std.specs.Prelude.{◌≡◌};
 ghost use Rattle.lf_core.specs.Written.{written};
 
@@ -9,12 +10,12 @@ use std::marker::Model;
 
 /// A machine, and the same written out. Clauses see the machine.
 #[derive(Drop)]
-pub struct Written<M: Marked> {
+pub struct WrittenOut<M: Marked> {
     table: Table,
     source: M,
 }
 
-impl<M: Marked> Model for Written<M> {
+impl<M: Marked> Model for WrittenOut<M> {
     ghost Value = { M };
 
     ghost view = { λ w. w.source };
@@ -22,13 +23,13 @@ impl<M: Marked> Model for Written<M> {
     ghost invariant = { λ w. w.table ≡ written (M.machine w.source) };
 }
 
-impl<M: Marked + Drop> Written<M> {
+impl<M: Marked + Drop> WrittenOut<M> {
     /// The machine, with what was written out of it.
-    pub fn new(source: M, table: Table) -> Written<M>
+    pub fn new(source: M, table: Table) -> WrittenOut<M>
         requires { table ≡ written (M.machine source) }
         ensures { result ≡ source }
     {
-        Written { table, source }
+        WrittenOut { table, source }
     }
 
     /// The machine that was written out.
@@ -39,7 +40,7 @@ impl<M: Marked + Drop> Written<M> {
     }
 }
 
-impl<M: Marked> Marked for Written<M> {
+impl<M: Marked> Marked for WrittenOut<M> {
     ghost machine = { M.machine };
 
     ghost laws = { M.laws };

@@ -16,9 +16,9 @@ use Rattle.lf_spelling.specs.declared.fault.Cause.{Cause}
 use Rattle.lf_spelling.specs.declared.fault.Cause.TheVariants.{Unclosed, BadName}
 use Rattle.lf_spelling.specs.declared.fault.ItemFault.{ItemFault}
 use Rattle.lf_spelling.specs.declared.fault.ItemFault.TheVariants as fault
-use Rattle.lf_spelling.specs.declared.front.Taken.{Taken}
-use Rattle.lf_spelling.specs.declared.front.Given.{Given}
-use Rattle.lf_spelling.specs.declared.front.Given.TheVariants.{Slot}
+use Rattle.lf_spelling.specs.declared.item_reader.Taken.{Taken}
+use Rattle.lf_spelling.specs.declared.item_reader.Given.{Given}
+use Rattle.lf_spelling.specs.declared.item_reader.Given.TheVariants.{Slot}
 use Rattle.nginx_front.specs.declared.front.Nginx.{Nginx}
 use Rattle.nginx_front.specs.declared.table.Escape.{Escape}
 use Rattle.nginx_front.specs.Variables.{is_word, is_name, is_inside, spelling, braced_spelling, slot_of}

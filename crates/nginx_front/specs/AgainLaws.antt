@@ -1,4 +1,4 @@
--- What stands at the front of a text is read there, and where no item stands, its cause is.
+-- What stands at the start of a text is read there, and where no item stands, its cause is.
 use Rattle.std.proofs.Common.{◌≡◌, ℕ, ◌≤◌, Bool, true, false, cond, not, eqb, List, [], ◌∷◌, ◌++◌, length, refl, sym, ap, subst, ◌∙◌, append_assoc, arith}
 use Rattle.std.specs.List.{list_all}
 use Rattle.std.proofs.lemmas.Bool.{and_parts, and_from, not-true, ne_eqb}
@@ -9,8 +9,8 @@ use Rattle.lf_spelling.specs.ItemLaws.{at_both}
 use Rattle.lf_spelling.specs.Items.{Failed}
 use Rattle.lf_spelling.specs.declared.fault.Cause.{Cause}
 use Rattle.lf_spelling.specs.declared.fault.Cause.TheVariants.{LineBreak, Unclosed, BadName}
-use Rattle.lf_spelling.specs.declared.front.Given.{Given}
-use Rattle.lf_spelling.specs.declared.front.Given.TheVariants.{Byte, Slot}
+use Rattle.lf_spelling.specs.declared.item_reader.Given.{Given}
+use Rattle.lf_spelling.specs.declared.item_reader.Given.TheVariants.{Byte, Slot}
 use Rattle.nginx_front.specs.declared.front.Nginx.{Nginx}
 use Rattle.nginx_front.specs.Variables.{is_word, is_name, is_inside, spelling, braced_spelling, slot_of}
 use Rattle.nginx_front.specs.Items.{begins_so, is_plain, IsItem, plain, bare, braced, HasFault, line_feed, unclosed, bad_braced, no_name}

@@ -1,4 +1,4 @@
--- What is read at the front of a text is so.
+-- What is read at the start of a text is so.
 use Rattle.std.proofs.Common.{◌≡◌, ℕ, ◌≤◌, Bool, true, false, cond, eqb, List, [], ◌∷◌, ◌++◌, length, refl, sym, ap, subst, ◌∙◌, append_assoc, arith}
 use Rattle.std.specs.List.{list_all}
 use Rattle.std.proofs.lemmas.Bool.{eqb-true, cond_both, not-false}
@@ -7,7 +7,7 @@ use Rattle.lf_spelling.specs.Runs.{run, past}
 use Rattle.lf_spelling.specs.RunLaws.{run_join, run_all, past_stop}
 use Rattle.lf_spelling.specs.Items.{Reading, Found, Failed}
 use Rattle.lf_spelling.specs.declared.fault.Cause.TheVariants.{LineBreak, BadName}
-use Rattle.lf_spelling.specs.declared.front.Given.TheVariants.{Byte, Slot}
+use Rattle.lf_spelling.specs.declared.item_reader.Given.TheVariants.{Byte, Slot}
 use Rattle.nginx_front.specs.declared.front.Nginx.{Nginx}
 use Rattle.nginx_front.specs.Variables.{is_word, is_name, is_inside, spelling, braced_spelling, slot_of}
 use Rattle.nginx_front.specs.Items.{begins_so, plain, bare, braced, HasFault, line_feed, unclosed, bad_braced, no_name}

@@ -1,10 +1,10 @@
--- At the front of a text stands one item, or none for one cause, and what an item gives is good.
+-- At the start of a text stands one item, or none for one cause, and what an item gives is good.
 use Rattle.std.proofs.Common.{◌≡◌, ℕ, not, eqb, List, [], ◌∷◌, sym, ap, subst, ◌∙◌, arith}
 use Rattle.std.proofs.lemmas.Bool.{and_parts}
 use Rattle.lf_spelling.specs.Items.{Item, Found}
-use Rattle.lf_spelling.specs.declared.front.Given.{Given}
-use Rattle.lf_spelling.specs.declared.front.Given.TheVariants.{Byte, Slot}
-use Rattle.lf_spelling.specs.Fronts.{IsFront, KeepsItem}
+use Rattle.lf_spelling.specs.declared.item_reader.Given.{Given}
+use Rattle.lf_spelling.specs.declared.item_reader.Given.TheVariants.{Byte, Slot}
+use Rattle.lf_spelling.specs.ItemReaders.{ReadsItems, KeepsItem}
 use Rattle.lf_spelling.specs.ItemLaws.{at_both}
 use Rattle.nginx_front.specs.declared.front.Nginx.{Nginx}
 use Rattle.nginx_front.specs.declared.table.Escape.{Escape}
@@ -24,7 +24,7 @@ item_keeps escape bytes given after (braced name good eb eg) = at_both KeepsItem
 same_item : (state : Nginx) (item : Item Nginx) (after : List ℕ) → item.state ≡ state → found state item.bytes item.given after ≡ Found item after
 same_item state item after same = ap (λ (s : Nginx). found s item.bytes item.given after) (sym same)
 
-pub laws : IsFront reading item_is fault_is
+pub laws : ReadsItems reading item_is fault_is
 unfolding Fine Again Fails
 laws = record {
   found = λ state text item after some read. subst (Fine state text) read (all_fine state text some);

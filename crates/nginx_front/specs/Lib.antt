@@ -1,3 +1,4 @@
+-- The definitions and laws of formats as nginx's log_format spells them.
 pub mod Nginx
 pub mod Table
 pub mod Variables

@@ -55,7 +55,7 @@ pub data LeavesAt (text : List ℕ) (at place : ℕ) (cause : Cause) : Type 0 wh
   open_quote : at ≡ length text → IsOpenQuote text place → cause ≡ Unclosed → LeavesAt text at place cause
   early_end : at ≡ length text → ((quote : ℕ) → IsOpenQuote text quote → ⊥) → place ≡ at → cause ≡ Unclosed → LeavesAt text at place cause
 
--- The first fault in the parts of a directive. It leaves the grammar after the longest front of the text that begins some directive.
+-- The first fault in the parts of a directive. It leaves the grammar after the longest prefix of the text that begins some directive.
 pub data FaultyParts (text : List ℕ) (place : ℕ) (cause : Cause) : Type 0 where
   bad_escape : IsBadEscape text place → cause ≡ BadFlags → FaultyParts text place cause
   no_directive : (at : ℕ) → ((escape : ℕ) → IsBadEscape text escape → ⊥) → FaultPlace (Is directive) text at → LeavesAt text at place cause → FaultyParts text place cause

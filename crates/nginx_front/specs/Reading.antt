@@ -1,15 +1,15 @@
--- What a reader finds at the front of a text.
+-- What a reader finds at the start of a text.
 use Rattle.std.specs.Prelude.{◌≡◌, ℕ, ◌==◌, true, false, Result, Ok, Err, List, [], ◌∷◌, if◌then◌else◌}
 use Rattle.lf_spelling.specs.Items.{Item, Reading, Found, Failed}
 use Rattle.lf_spelling.specs.Runs.{run, past}
-use Rattle.lf_spelling.specs.Fronts.{GivesItem}
+use Rattle.lf_spelling.specs.ItemReaders.{GivesItem}
 use Rattle.lf_spelling.specs.declared.fault.Cause.{Cause}
 use Rattle.lf_spelling.specs.declared.fault.Cause.TheVariants.{LineBreak, EmptyFormat, Unclosed, BadName}
 use Rattle.lf_spelling.specs.declared.fault.ItemFault.{ItemFault}
 use Rattle.lf_spelling.specs.declared.fault.ItemFault.TheVariants as fault
-use Rattle.lf_spelling.specs.declared.front.Given.{Given}
-use Rattle.lf_spelling.specs.declared.front.Given.TheVariants.{Byte, Slot}
-use Rattle.lf_spelling.specs.declared.front.Taken.{Taken}
+use Rattle.lf_spelling.specs.declared.item_reader.Given.{Given}
+use Rattle.lf_spelling.specs.declared.item_reader.Given.TheVariants.{Byte, Slot}
+use Rattle.lf_spelling.specs.declared.item_reader.Taken.{Taken}
 use Rattle.nginx_front.specs.declared.front.Nginx.{Nginx}
 use Rattle.nginx_front.specs.declared.table.Escape.{Escape}
 use Rattle.nginx_front.specs.Variables.{is_word, is_inside, is_name, spelling, braced_spelling, slot_of}
@@ -41,7 +41,7 @@ abbrev pub on_dollar : Nginx → List ℕ → Reading Nginx
 on_dollar state [] = on_bare state []
 on_dollar state (c ∷ text) = if c == 123 then on_braced state text else on_bare state (c ∷ text)
 
--- what is found at the front of a text
+-- what is found at the start of a text
 abbrev pub reading : Nginx → List ℕ → Reading Nginx
 reading state [] = Failed EmptyFormat
 reading state (b ∷ text) =
@@ -58,7 +58,7 @@ pub record StandsAs (state : Nginx) (item : Item Nginx) (after : List ℕ) : Typ
 abbrev pub item_is : Nginx → Item Nginx → List ℕ → Type 0
 item_is state item after = StandsAs state item after
 
--- No item stands at the front of these bytes, for this cause.
+-- No item stands at the start of these bytes, for this cause.
 abbrev pub fault_is : Nginx → List ℕ → Cause → Type 0
 fault_is state text cause = HasFault text cause
 

@@ -11,7 +11,7 @@ ghost use Rattle.nginx_front.specs.Nginx.{Spells, IsFaulty, HasOneAnswer};
 use crate::table::Escape;
 use crate::variable::dollar;
 use lf_format::{Format, LineEnd};
-use lf_spelling::{Cause, FormatFault, Front, Given, ItemFault, Taken, read_text};
+use lf_spelling::{Cause, FormatFault, Given, ItemFault, ItemReader, Taken, read_text};
 use std::alloc::Global;
 
 /// nginx's language under an escape, which no item changes.
@@ -20,7 +20,7 @@ struct Nginx {
     escape: Escape,
 }
 
-impl Front for Nginx {
+impl ItemReader for Nginx {
     ghost use Rattle.nginx_front.specs.Reading.{item_is as nginx_item_is, fault_is as nginx_fault_is, reading as nginx_reading};
     ghost use Rattle.nginx_front.specs.Laws.{laws as nginx_laws};
 

@@ -19,7 +19,9 @@ pub struct Placed {
 #[derive(Clone, Copy, Debug, PartialEq, Eq)]
 pub enum Mode {
     Outside,
+    /// The quote, and the place where it opened.
     Quoted(u8, u32),
+    /// The same quote and place; the byte before is a backslash.
     Backslash(u8, u32),
 }
 

@@ -12,23 +12,36 @@ use std::alloc::Global;
 /// How texts are escaped: nginx's own way, as JSON strings, or not at all.
 #[derive(Clone, Copy, Debug, PartialEq, Eq)]
 pub enum Escape {
+    /// `escape=default`.
     Default,
+    /// `escape=json`.
     Json,
+    /// `escape=none`.
     Off,
 }
 
 /// What sort of values a variable has.
 #[derive(Clone, Copy, Debug, PartialEq, Eq)]
 pub enum Sort {
+    /// A text of visible letters, one or more.
     Visible,
+    /// A text of visible letters.
     VisibleOrEmpty,
+    /// A number from 0 to 65535.
     PortNumber,
+    /// A number from 0 to 999, in three digits.
     Status,
+    /// A number from 0.
     Count,
+    /// Seconds, with a point and three digits.
     Seconds,
+    /// A time like `10/Oct/2000:13:55:36 -0700`.
     LocalTime,
+    /// A time like `2000-10-10T13:55:36-07:00`.
     IsoTime,
+    /// Whether the request was pipelined: `p`, or `.` for not.
     Pipe,
+    /// A text, as of each variable that isn't in the table.
     Free,
 }
 

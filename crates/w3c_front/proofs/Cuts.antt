@@ -1,4 +1,4 @@
--- What the code takes off the front of a text is what the reading finds there.
+-- What the code takes off the start of a text is what the reading finds there.
 use Rattle.std.proofs.Common.{◌≡◌, ℕ, ◌≤◌, ◌+◌, true, false, cond, eqb, List, ◌∷◌, length, take, drop, None, Ok, Err, refl, sym, ap, subst, ◌∙◌, length-append, arith}
 use Rattle.std.specs.List.{prefix_len}
 use Rattle.std.proofs.lemmas.List.{take_at}
@@ -6,11 +6,11 @@ use Rattle.lf_spelling.specs.Runs.{run, past}
 use Rattle.lf_spelling.specs.Enclosed.{is_not}
 use Rattle.lf_spelling.specs.RunLaws.{run_taken}
 use Rattle.lf_spelling.specs.Items.{Found, Failed}
-use Rattle.lf_spelling.specs.Fronts.{GivesItem}
+use Rattle.lf_spelling.specs.ItemReaders.{GivesItem}
 use Rattle.lf_spelling.specs.declared.fault.Cause.TheVariants.{LineBreak}
 use Rattle.lf_spelling.specs.declared.fault.ItemFault.{ItemFault}
 use Rattle.lf_spelling.specs.declared.fault.ItemFault.TheVariants as fault
-use Rattle.lf_spelling.specs.declared.front.Given.{Given}
+use Rattle.lf_spelling.specs.declared.item_reader.Given.{Given}
 use Rattle.lf_format.specs.declared.slot.Slot.{Slot}
 use Rattle.w3c_front.specs.declared.front.Fields.{Fields}
 use Rattle.w3c_front.specs.declared.front.Place.{Place}
@@ -25,7 +25,7 @@ use Rattle.w3c_front.specs.FrontLaws.{fine_heading}
 pub not_prefixed : (language : Language) (mark : ℕ) (name front : List ℕ) → front ≡ run (is_not mark) name → is_listed (prefixes language) front ≡ false → past_prefix language mark name ≡ None
 not_prefixed language mark name front is none = ap (λ v. cond v (past_first (past (is_not mark) name)) None) (ap (is_listed (prefixes language)) (sym is) ∙ none)
 
--- ---- the front of a list of fields
+-- ---- the start of a list of fields
 
 blanks_here : (state : Fields) (b : ℕ) (tail : List ℕ) → is_blank b ≡ true → reading state (b ∷ tail) ≡ Found (passed state (run is_blank (b ∷ tail)) (after_blanks state.place)) (past is_blank (b ∷ tail))
 blanks_here state b tail h =

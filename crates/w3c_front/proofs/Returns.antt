@@ -3,6 +3,7 @@ use Rattle.std.proofs.Common.{◌≡◌, ◌≢◌, ℕ, zero, suc, ◌+◌, ◌
 use Rattle.std.specs.Prelude.{ℤ, pos, negsuc, All}
 use Rattle.std.proofs.lemmas.Bool.{cond_both}
 use Rattle.std.proofs.lemmas.List.Elements.{All-nil, All-cons, All-head, All-tail, All-append, All-weaker}
+use Rattle.lf_limits.specs.Limits.{most_length}
 use Rattle.lf_core.specs.declared.class.Class.{Class}
 use Rattle.lf_core.specs.declared.class.TheConstants.Class as classes
 use Rattle.lf_core.specs.declared.values.Value.{Value}
@@ -28,8 +29,8 @@ use Rattle.lf_format.specs.declared.format.Piece.TheVariants as piece
 use Rattle.lf_spelling.specs.Items.{Item, text_of, given_of, Stand}
 use Rattle.lf_spelling.specs.Pieces.{with_literal, pieces_of}
 use Rattle.lf_spelling.specs.Spelling.{SpellsPieces}
-use Rattle.lf_spelling.specs.declared.front.Given.{Given}
-use Rattle.lf_spelling.specs.declared.front.Given.TheVariants.{Nothing, Byte, Slot, Spaced, Braced}
+use Rattle.lf_spelling.specs.declared.item_reader.Given.{Given}
+use Rattle.lf_spelling.specs.declared.item_reader.Given.TheVariants.{Nothing, Byte, Slot, Spaced, Braced}
 use Rattle.w3c_front.specs.declared.front.Fields.{Fields}
 use Rattle.w3c_front.specs.declared.front.Place.{Place}
 use Rattle.w3c_front.specs.declared.front.Place.TheVariants.{Start, First, Later}
@@ -103,7 +104,7 @@ num_free v = none
 member_free : (set : Class) → is_letter set 13 ≡ false → (b : ℕ) → is_letter set b ≡ true → b ≢ 13
 member_free set out b h = λ e. let in_it : is_letter set 13 ≡ true = subst (λ (n : ℕ). is_letter set n ≡ true) e h in let clash : true ≡ false = sym in_it ∙ out in absurd cc
 
-text_free : (set : Class) (min : ℕ) (fits : min ≤ 99999) → is_letter set 13 ≡ false → (v : Value) → HoldsKind (texts set min fits) v → Free (plain_text (texts set min fits) v)
+text_free : (set : Class) (min : ℕ) (fits : min ≤ most_length) → is_letter set 13 ≡ false → (v : Value) → HoldsKind (texts set min fits) v → Free (plain_text (texts set min fits) v)
 text_free set min fits out (Text text) h = record { all = All-weaker (λ letter. is_letter set letter ≡ true) (λ b. b ≢ 13) (member_free set out) text h.0 }
 text_free set min fits out v h = absurd h
 

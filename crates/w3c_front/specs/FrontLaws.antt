@@ -1,4 +1,4 @@
--- What is read at the front of a text stands there, and what stands there is read.
+-- What is read at the start of a text stands there, and what stands there is read.
 use Rattle.std.proofs.Common.{◌≡◌, ℕ, ◌≤◌, Bool, true, false, cond, not, eqb, List, [], ◌∷◌, ◌++◌, length, drop, Result, Ok, Err, refl, sym, ap, subst, ◌∙◌, arith}
 use Rattle.std.specs.Prelude.{nat_eq}
 use Rattle.std.specs.List.{starts_with}
@@ -16,13 +16,13 @@ use Rattle.w3c_front.specs.declared.front.Place.{Place}
 use Rattle.w3c_front.specs.declared.front.Place.TheVariants.{Start, First, Later}
 use Rattle.w3c_front.specs.declared.table.Sort.{Sort}
 use Rattle.w3c_front.specs.Identifier.{field_of}
-use Rattle.w3c_front.specs.Items.{is_blank, is_inner, IsRun, heading, has_heading, after_blanks, passed, IsItem, blanks, heads, field, HasFault, line_feed, bad_field}
+use Rattle.w3c_front.specs.Items.{is_blank, is_inner, IsStretch, heading, has_heading, after_blanks, passed, IsItem, blanks, heads, field, HasFault, line_feed, bad_field}
 use Rattle.w3c_front.specs.Reading.{on_field, reading}
 
 -- ---- what is read stands there
 
--- the longest run at the front of a text
-run_is : (p : ℕ → Bool) (b : ℕ) (text : List ℕ) → p b ≡ true → IsRun p (run p (b ∷ text)) (past p (b ∷ text))
+-- the longest run at the start of a text
+run_is : (p : ℕ → Bool) (b : ℕ) (text : List ℕ) → p b ≡ true → IsStretch p (run p (b ∷ text)) (past p (b ∷ text))
 run_is p b text h = record {
   some = subst (λ v. 1 ≤ length (cond v (b ∷ run p text) [])) (sym h) (omega arith);
   longest = ap (run p) (run_join p (b ∷ text));
@@ -42,7 +42,7 @@ fine_heading Start text h = (refl, begins text heading h)
 fine_heading First text h = absurd cc
 fine_heading Later text h = absurd cc
 
-fine_field : (state : Fields) (text name after : List ℕ) (found : Result Sort Cause) → text ≡ name ++ after → IsRun is_inner name after → has_heading state.place text ≡ false → field_of state.language name ≡ found → Fine state text (on_field state name after found)
+fine_field : (state : Fields) (text name after : List ℕ) (found : Result Sort Cause) → text ≡ name ++ after → IsStretch is_inner name after → has_heading state.place text ≡ false → field_of state.language name ≡ found → Fine state text (on_field state name after found)
 unfolding Fine
 fine_field state text name after (Err cause) parts longest head is = bad_field name after parts longest head is
 fine_field state text name after (Ok sort) parts longest head is = (parts, field name sort longest (ap (has_heading state.place) (sym parts) ∙ head) is refl)
@@ -116,7 +116,7 @@ inner_parts : (b : ℕ) → is_inner b ≡ true → (is_blank b ≡ false) × (e
 inner_parts b h = let both = and_parts (not (is_blank b)) (not (eqb b 10)) h in (not-true (is_blank b) both.0, not-true (eqb b 10) both.1)
 
 -- a text that begins with an identifier
-identifier_again : (state : Fields) (name after : List ℕ) → IsRun is_inner name after → has_heading state.place (name ++ after) ≡ false → reading state (name ++ after) ≡ on_field state name after (field_of state.language name)
+identifier_again : (state : Fields) (name after : List ℕ) → IsStretch is_inner name after → has_heading state.place (name ++ after) ≡ false → reading state (name ++ after) ≡ on_field state name after (field_of state.language name)
 identifier_again state [] after h head = absurd (let some = h.some in omega (arith, some))
 identifier_again state (b ∷ name) after h head =
     let parts = run_parts is_inner b name after h.longest in

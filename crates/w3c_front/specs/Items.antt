@@ -6,8 +6,8 @@ use Rattle.lf_spelling.specs.Items.{Item}
 use Rattle.lf_spelling.specs.declared.fault.Cause.{Cause}
 use Rattle.lf_spelling.specs.declared.fault.Cause.TheVariants.{LineBreak}
 use Rattle.lf_format.specs.declared.slot.Slot.{Slot}
-use Rattle.lf_spelling.specs.declared.front.Given.{Given}
-use Rattle.lf_spelling.specs.declared.front.Given.TheVariants as given
+use Rattle.lf_spelling.specs.declared.item_reader.Given.{Given}
+use Rattle.lf_spelling.specs.declared.item_reader.Given.TheVariants as given
 use Rattle.w3c_front.specs.declared.front.Fields.{Fields}
 use Rattle.w3c_front.specs.declared.front.Place.{Place}
 use Rattle.w3c_front.specs.declared.front.Place.TheVariants.{Start, First, Later}
@@ -23,7 +23,7 @@ abbrev pub is_inner : ℕ → Bool
 is_inner b = not (is_blank b) && not (b == 10)
 
 -- The bytes are the longest run of such bytes before the others, and not empty.
-pub record IsRun (passes : ℕ → Bool) (bytes after : List ℕ) : Type 0 where
+pub record IsStretch (passes : ℕ → Bool) (bytes after : List ℕ) : Type 0 where
   pub some : 1 ≤ length bytes
   pub longest : run passes (bytes ++ after) ≡ bytes
 
@@ -59,11 +59,11 @@ taken state name sort = record { bytes = name; given = given_of state.place (slo
 
 -- The item stands before these bytes.
 pub data IsItem (state : Fields) (item : Item Fields) (after : List ℕ) : Type 0 where
-  blanks : (bytes : List ℕ) → IsRun is_blank bytes after → item ≡ passed state bytes (after_blanks state.place) → IsItem state item after
+  blanks : (bytes : List ℕ) → IsStretch is_blank bytes after → item ≡ passed state bytes (after_blanks state.place) → IsItem state item after
   heads : state.place ≡ Start → item ≡ passed state heading First → IsItem state item after
-  field : (name : List ℕ) (sort : Sort) → IsRun is_inner name after → has_heading state.place (name ++ after) ≡ false → field_of state.language name ≡ Ok sort → item ≡ taken state name sort → IsItem state item after
+  field : (name : List ℕ) (sort : Sort) → IsStretch is_inner name after → has_heading state.place (name ++ after) ≡ false → field_of state.language name ≡ Ok sort → item ≡ taken state name sort → IsItem state item after
 
 -- No item begins the text, for this cause.
 pub data HasFault (state : Fields) (text : List ℕ) (cause : Cause) : Type 0 where
   line_feed : (after : List ℕ) → text ≡ 10 ∷ after → cause ≡ LineBreak → HasFault state text cause
-  bad_field : (name after : List ℕ) → text ≡ name ++ after → IsRun is_inner name after → has_heading state.place text ≡ false → field_of state.language name ≡ Err cause → HasFault state text cause
+  bad_field : (name after : List ℕ) → text ≡ name ++ after → IsStretch is_inner name after → has_heading state.place text ≡ false → field_of state.language name ≡ Err cause → HasFault state text cause

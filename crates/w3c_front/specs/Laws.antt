@@ -1,7 +1,7 @@
--- At the front of a text stands one item, or none for one cause, and what an item gives is good.
+-- At the start of a text stands one item, or none for one cause, and what an item gives is good.
 use Rattle.std.proofs.Common.{ℕ, ◌≤◌, List, length, sym, subst, arith}
 use Rattle.lf_spelling.specs.Items.{Item}
-use Rattle.lf_spelling.specs.Fronts.{IsFront, KeepsItem, KeepsGiven, given_bytes}
+use Rattle.lf_spelling.specs.ItemReaders.{ReadsItems, KeepsItem, KeepsGiven, given_bytes}
 use Rattle.w3c_front.specs.declared.front.Fields.{Fields}
 use Rattle.w3c_front.specs.declared.front.Place.{Place}
 use Rattle.w3c_front.specs.declared.front.Place.TheVariants.{Start, First, Later}
@@ -31,7 +31,7 @@ item_keeps state item after (blanks bytes h e) = subst kept (sym e) (record { go
 item_keeps state item after (heads is e) = subst kept (sym e) (record { good = tt; short = omega arith })
 item_keeps state item after (field name sort h head is e) = subst kept (sym e) (record { good = good_given state.place name sort; short = short_given state.place name sort h.some })
 
-pub laws : IsFront reading item_is fault_is
+pub laws : ReadsItems reading item_is fault_is
 unfolding Fine Again
 laws = record {
   found = λ state text item after some read. subst (Fine state text) read (all_fine state text some);

@@ -1,3 +1,4 @@
+-- The definitions and laws of formats as lists of fields.
 pub mod W3c
 pub mod Table
 pub mod Identifier

@@ -1,7 +1,7 @@
 -- A field gives its slot, alone or behind a space.
 use Rattle.lf_format.specs.declared.slot.Slot.{Slot}
-use Rattle.lf_spelling.specs.declared.front.Given.{Given}
-use Rattle.lf_spelling.specs.declared.front.Given.TheVariants as given
+use Rattle.lf_spelling.specs.declared.item_reader.Given.{Given}
+use Rattle.lf_spelling.specs.declared.item_reader.Given.TheVariants as given
 use Rattle.w3c_front.specs.declared.front.Place.{Place}
 use Rattle.w3c_front.specs.declared.front.Place.TheVariants.{Start, First, Later}
 use Rattle.w3c_front.specs.Items.{given_of}

@@ -1,4 +1,4 @@
--- What a reader finds at the front of a text.
+-- What a reader finds at the start of a text.
 use Rattle.std.specs.Prelude.{◌≡◌, ℕ, ◌==◌, Result, Ok, Err, List, [], ◌∷◌, drop, if◌then◌else◌}
 use Rattle.lf_spelling.specs.Items.{Item, Reading, Found, Failed}
 use Rattle.lf_spelling.specs.Runs.{run, past}
@@ -23,7 +23,7 @@ abbrev pub on_field : Fields → List ℕ → List ℕ → Result Sort Cause →
 on_field state name after (Err cause) = Failed cause
 on_field state name after (Ok sort) = Found (taken state name sort) after
 
--- what is found at the front of a text
+-- what is found at the start of a text
 abbrev pub reading : Fields → List ℕ → Reading Fields
 reading state [] = Failed EmptyFormat
 reading state (b ∷ text) =
@@ -36,7 +36,7 @@ reading state (b ∷ text) =
 abbrev pub item_is : Fields → Item Fields → List ℕ → Type 0
 item_is state item after = IsItem state item after
 
--- No item stands at the front of these bytes, for this cause.
+-- No item stands at the start of these bytes, for this cause.
 abbrev pub fault_is : Fields → List ℕ → Cause → Type 0
 fault_is state text cause = HasFault state text cause
 

@@ -4,7 +4,7 @@ ghost use Rattle.std.specs.Prelude.{◌≡◌, ◌≤◌, ◌<◌, ℕ, List, le
 ghost use Rattle.lf_limits.specs.Limits.{most_text_bytes};
 ghost use Rattle.std.specs.List.{prefix_len};
 ghost use Rattle.lf_spelling.specs.Cuts.{EndsText};
-ghost use Rattle.lf_spelling.specs.Fronts.{GivesItem};
+ghost use Rattle.lf_spelling.specs.ItemReaders.{GivesItem};
 ghost use Rattle.lf_spelling.specs.Spelling.{AnswersFormat, AnswersFault};
 ghost use Rattle.lf_format.specs.Shape.{Shape};
 ghost use Rattle.lf_spelling.specs.declared.fault.Cause.{Cause};
@@ -15,7 +15,7 @@ ghost use Rattle.w3c_front.specs.W3c.{SpellsDraft, IsFaultyDraft, HasOneDraftAns
 use crate::identifier::slot;
 use crate::table::Language;
 use lf_format::{Format, LineEnd, Slot};
-use lf_spelling::{Cause, FormatFault, Front, Given, ItemFault, Taken, read_text};
+use lf_spelling::{Cause, FormatFault, Given, ItemFault, ItemReader, Taken, read_text};
 use std::alloc::Global;
 
 /// What may stand at the first byte of a text.
@@ -86,7 +86,7 @@ fn given(place: Place, slot: Slot) -> Given
     }
 }
 
-impl Front for Fields {
+impl ItemReader for Fields {
     ghost use Rattle.w3c_front.specs.Reading.{item_is as fields_item_is, fault_is as fields_fault_is, reading as fields_reading};
     ghost use Rattle.w3c_front.specs.Laws.{laws as fields_laws};
 

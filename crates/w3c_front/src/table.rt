@@ -10,25 +10,40 @@ use lf_time::{W3cClock, W3cDate};
 /// Whose identifiers are read.
 #[derive(Clone, Copy, Debug, PartialEq, Eq)]
 pub enum Language {
+    /// The W3C's draft of an extended log file.
     Draft,
+    /// IIS, whose fields are its own.
     Iis,
 }
 
 /// What sort of values a field has.
 #[derive(Clone, Copy, Debug, PartialEq, Eq)]
 pub enum Sort {
+    /// A day like `2000-10-10`.
     Day,
+    /// A time of the day like `13:55:36`.
     Clock,
+    /// A text of digits and points, one or more.
     Decimal,
+    /// A number from 0.
     Count,
+    /// 0 or 1.
     Cached,
+    /// A number from 0 to 999.
     Status,
+    /// A text of `Class::VISIBLE`, one letter or more.
     Visible,
+    /// A text of `Class::WORD`, one letter or more.
     Word,
+    /// A text of `Class::HEADER` in quotes.
     Comment,
+    /// A text of `Class::IIS_WORD`, one letter or more.
     Bare,
+    /// A text of `Class::SPACED`, one letter or more, with `+` for a space.
     Spaced,
+    /// A number from 0 to 65535.
     PortNumber,
+    /// A number from 0 to 4294967295.
     SystemCode,
 }
 

@@ -26,7 +26,7 @@ cause_of format causes.OutOfMemory a b d = tt
 pub returns-in-Ok : goal.returns-in-Ok
 returns-in-Ok c =
     let v = c.args.verb in
-    accepted c.args.format c.requires.spelled c.requires.compiling c.in-Ok.ensures.ok (c.accepted.ensures ∙ ap (accepted_command v) c.in-Ok.ensures.same)
+    accepted c.args.format c.requires.given c.requires.compiling c.in-Ok.ensures.ok (c.accepted.ensures ∙ ap (accepted_command v) c.in-Ok.ensures.same)
 
 pub returns : goal.returns
 returns c =
@@ -34,4 +34,4 @@ returns c =
     let e = c.in-Err.ensures in
     let why = c.in-Err.field-0.cause in
     let cause = cause_of c.args.format why e.too_large e.hash e.ambiguous in
-    IfOk-weaker c.refused.result (IsRefusedFor v why) (IsAsked v c.args._source.now) (λ command h. refused c.args.format why c.requires.spelled c.requires.compiling cause h) c.refused.ensures
+    IfOk-weaker c.refused.result (IsRefusedFor v why) (IsAsked v c.args._source.now) (λ command h. refused c.args.format why c.requires.given c.requires.compiling cause h) c.refused.ensures

@@ -50,4 +50,4 @@ pub returns-in-Refuse-clause-tells : goal.returns-in-Refuse-clause-tells
 returns-in-Refuse-clause-tells g c =
     let tell = c.tell_text-in-Refuse in
     let good = subst (λ (n : ℕ). (n ≤ 3) ⊎ (n ≡ 7)) (sym c.refusal_status.ensures) (good_status c.in-Refuse.refusal) in
-    tells_err c.refusal_status.result _ _ _ _ _ _ _ good tell.ensures.says tell.ensures.faults
+    tells_err c.refusal_status.result.0 _ _ _ _ _ _ _ good tell.ensures.says tell.ensures.faults

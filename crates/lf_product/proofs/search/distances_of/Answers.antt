@@ -20,12 +20,12 @@ levels-preserved c =
     let m = machine_of c.args.table.now in
     let fit : c.levels.steps + 1 < NONE = steps_fit m.count c.levels.steps (room NONE c.levels.distances.items c.levels.level.items) most_size NONE c.requires.few c.levels.invariant.few (omega arith) in
     let some : 0 < length c.levels.level.items = search rules in
-    let same : room NONE c.next_level.new.distances.items c.in_ok-level-2.level.items ≡ room NONE c.levels.distances.items [] = c.in_ok-level-2.ensures.room in
+    let same : room NONE c.next_level.new.distances.items c.in_ok-level-2.level.items ≡ room NONE c.levels.distances.items [] = c.in_ok-level-2.ensures.going.same_room in
     let old : c.levels.steps + room NONE c.levels.distances.items c.levels.level.items ≤ m.count * (m.count + 1) = c.levels.invariant.few in
     record {
-      whole = c.in_ok-level-2.ensures.grows.same_length ∙ c.levels.invariant.whole;
-      reached = c.in_ok-level-2.ensures.reached;
-      complete = next_complete m NONE c.levels.steps c.levels.distances.items c.next_level.new.distances.items c.levels.level.items c.in_ok-level-2.level.items c.requires.lawful fit c.levels.invariant.reached c.levels.invariant.complete c.in_ok-level-2.ensures.reached c.in_ok-level-2.ensures.grows
+      whole = c.in_ok-level-2.ensures.going.grows.same_length ∙ c.levels.invariant.whole;
+      reached = c.in_ok-level-2.ensures.going.reached;
+      complete = next_complete m NONE c.levels.steps c.levels.distances.items c.next_level.new.distances.items c.levels.level.items c.in_ok-level-2.level.items c.requires.lawful fit c.levels.invariant.reached c.levels.invariant.complete c.in_ok-level-2.ensures.going.reached c.in_ok-level-2.ensures.going.grows
           (subst (λ (ps : List Pair). AllBefore m NONE c.next_level.new.distances.items ps) c.deref-in-levels-2.ensures.value c.in_ok-level-2.ensures.has);
       few = omega (arith, same, old, some);
     }

@@ -4,20 +4,21 @@ use Rattle.lf_product.specs.declared.pair.Pair.{Pair}
 use Rattle.lf_product.specs.declared.search.TheConstants.{NONE}
 use Rattle.lf_core.specs.Written.{machine_of}
 use Rattle.lf_product.specs.Level.{AreBefore}
-use Rattle.lf_product.proofs.Sweep.{contains_take_more, contains_whole, before_grows, going_on}
+use Rattle.lf_product.proofs.Levels.{going_trans}
+use Rattle.lf_product.proofs.Sweep.{contains_take_more, contains_whole, before_grows}
 use Rattle.lf_product.proofs.search.next_level.Goals as goal
 
 abbrev no_pair : Pair
 no_pair = record { left = 0; right = 0; differed = false }
 
 pub reach_from-requires-clause-left : goal.reach_from-requires-clause-left
-reach_from-requires-clause-left c = c.requires.reached.waits_left (get_or c.args.level.now c.loop-pair.pair-index no_pair) (Contains-get_or c.args.level.now c.loop-pair.pair-index no_pair (omega arith))
+reach_from-requires-clause-left c = c.requires.standing.reached.waits_left (get_or c.args.level.now c.loop-pair.pair-index no_pair) (Contains-get_or c.args.level.now c.loop-pair.pair-index no_pair (omega arith))
 
 pub reach_from-requires-clause-right : goal.reach_from-requires-clause-right
-reach_from-requires-clause-right c = c.requires.reached.waits_right (get_or c.args.level.now c.loop-pair.pair-index no_pair) (Contains-get_or c.args.level.now c.loop-pair.pair-index no_pair (omega arith))
+reach_from-requires-clause-right c = c.requires.standing.reached.waits_right (get_or c.args.level.now c.loop-pair.pair-index no_pair) (Contains-get_or c.args.level.now c.loop-pair.pair-index no_pair (omega arith))
 
 pub reach_from-requires-clause-way : goal.reach_from-requires-clause-way
-reach_from-requires-clause-way c = (c.args.steps, omega arith, c.requires.reached.waits_at (get_or c.args.level.now c.loop-pair.pair-index no_pair) (Contains-get_or c.args.level.now c.loop-pair.pair-index no_pair (omega arith)))
+reach_from-requires-clause-way c = (c.args.steps, omega arith, c.requires.standing.reached.waits_at (get_or c.args.level.now c.loop-pair.pair-index no_pair) (Contains-get_or c.args.level.now c.loop-pair.pair-index no_pair (omega arith)))
 
 pub reach_from-requires-clause-arrivals : goal.reach_from-requires-clause-arrivals
 reach_from-requires-clause-arrivals c = c.telling-arrivals.ensures (machine_of c.args.table.now) c.requires.marked c.requires.joined
@@ -27,9 +28,9 @@ loop-pair-preserved c =
     let m = machine_of c.args.table.now in
     let es : List ℕ = c.reach_from.new.distances.items in
     record {
-      going = going_on m NONE (c.args.steps + 1) c.args.distances.now.items c.loop-pair.distances.items es [] c.loop-pair.waiting.items c.reach_from.new.waiting.items c.loop-pair.invariant.going c.in_ok-reach_from.ensures.reached c.in_ok-reach_from.ensures.grows c.in_ok-reach_from.ensures.room;
+      going = going_trans m NONE (c.args.steps + 1) c.args.distances.now.items c.loop-pair.distances.items es [] c.loop-pair.waiting.items c.reach_from.new.waiting.items c.loop-pair.invariant.going c.in_ok-reach_from.ensures.going;
       done = λ p h. elim (contains_take_more c.args.level.now c.loop-pair.pair-index no_pair p (omega arith) h) [
-        | inl k ↦ before_grows m NONE c.loop-pair.distances.items es p c.in_ok-reach_from.ensures.grows (c.loop-pair.invariant.done p k)
+        | inl k ↦ before_grows m NONE c.loop-pair.distances.items es p c.in_ok-reach_from.ensures.going.grows (c.loop-pair.invariant.done p k)
         | inr e ↦ subst (λ (q : Pair). AreBefore m NONE es q) e c.in_ok-reach_from.ensures.has
       ];
     }

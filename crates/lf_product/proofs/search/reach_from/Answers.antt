@@ -8,7 +8,8 @@ use Rattle.lf_product.specs.declared.search.TheConstants.{NONE}
 use Rattle.lf_core.specs.Written.{machine_of}
 use Rattle.lf_product.specs.Arcs.{lists_of}
 use Rattle.lf_product.specs.Level.{IsCovered}
-use Rattle.lf_product.proofs.Sweep.{contains_take, contains_take_more, list_at, covered_grows, going_on, list_bound, contains_whole}
+use Rattle.lf_product.proofs.Levels.{going_trans}
+use Rattle.lf_product.proofs.Sweep.{contains_take, contains_take_more, list_at, covered_grows, list_bound, contains_whole}
 
 abbrev no_arrival : Arrival
 no_arrival = record { from = 0; mark = 0; bytes = record { words = [] } }
@@ -43,10 +44,10 @@ loop-y-preserved c =
     let this : Arrival = get_or c.deref-x-items.result.now c.loop-x.x-index no_arrival in
     let this_in : Contains c.deref-x-items.result.now this = Contains-get_or c.deref-x-items.result.now c.loop-x.x-index no_arrival (omega arith) in
     record {
-      going = going_on m NONE c.args.steps c.args.distances.now.items ds es c.args.waiting.now.items c.loop-y.waiting.items c.reach_by.new.waiting.items c.loop-y.invariant.going c.in_ok-reach_by.ensures.reached c.in_ok-reach_by.ensures.grows c.in_ok-reach_by.ensures.room;
-      done = λ x y hx hy. covered_grows m.count NONE ds es x y c.args.pair c.in_ok-reach_by.ensures.grows (from_left x (contains_take c.deref-x-items.result.now c.loop-x.x-index x hx)) (from_right y (rw (← ys_are) hy)) (c.loop-y.invariant.done x y hx hy);
+      going = going_trans m NONE c.args.steps c.args.distances.now.items ds es c.args.waiting.now.items c.loop-y.waiting.items c.reach_by.new.waiting.items c.loop-y.invariant.going c.in_ok-reach_by.ensures.going;
+      done = λ x y hx hy. covered_grows m.count NONE ds es x y c.args.pair c.in_ok-reach_by.ensures.going.grows (from_left x (contains_take c.deref-x-items.result.now c.loop-x.x-index x hx)) (from_right y (rw (← ys_are) hy)) (c.loop-y.invariant.done x y hx hy);
       row = λ y hy. elim (contains_take_more c.deref-y-items.result.now c.loop-y.y-index no_arrival y (omega arith) hy) [
-        | inl h ↦ covered_grows m.count NONE ds es this y c.args.pair c.in_ok-reach_by.ensures.grows (from_left this this_in) (from_right y (contains_take c.deref-y-items.result.now c.loop-y.y-index y h)) (c.loop-y.invariant.row y h)
+        | inl h ↦ covered_grows m.count NONE ds es this y c.args.pair c.in_ok-reach_by.ensures.going.grows (from_left this this_in) (from_right y (contains_take c.deref-y-items.result.now c.loop-y.y-index y h)) (c.loop-y.invariant.row y h)
         | inr e ↦ subst (λ (z : Arrival). IsCovered m.count NONE es this z c.args.pair) e c.in_ok-reach_by.ensures.has
       ];
     }

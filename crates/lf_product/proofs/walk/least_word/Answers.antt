@@ -2,7 +2,7 @@ use Rattle.std.proofs.Common.{◌≡◌, ◌<◌, ◌+◌, ◌-◌, ◌∙◌, �
 use Rattle.lf_core.specs.Marked.{Machine}
 use Rattle.lf_core.specs.Written.{machine_of}
 use Rattle.lf_product.specs.declared.pair.Pair.{Pair}
-use Rattle.lf_product.specs.Walk.{SharesFrom, IsLevel, IsOnward}
+use Rattle.lf_product.specs.Walk.{SharesFrom, IsLevel, IsLeastOnward}
 use Rattle.lf_product.proofs.WalkSteps.{Begins, begins_first, begins_more, least_word_is, level_from_next}
 use Rattle.lf_product.proofs.walk.least_word.Goals as goal
 
@@ -26,9 +26,9 @@ loop-taken-preserved c =
     let less : c.args.distance - l.taken - 1 ≡ c.args.distance - (l.taken + 1) = omega arith in
     let byte = c.in_ok-onward.onward.byte in
     let next = c.in_ok-onward.onward.next.items in
-    let on : IsOnward m k l.now.items byte next =
-    subst (λ (ps : List Pair). IsOnward m k ps byte next) c.deref.ensures.value
-    (subst (λ (n : ℕ). IsOnward m n c.deref.result.now byte next) less c.in_ok-onward.ensures) in
+    let on : IsLeastOnward m k l.now.items byte next =
+    subst (λ (ps : List Pair). IsLeastOnward m k ps byte next) c.deref.ensures.value
+    (subst (λ (n : ℕ). IsLeastOnward m n c.deref.result.now byte next) less c.in_ok-onward.ensures) in
     let start = SharesFrom m c.args.level.items in
     let begins : Begins m start l.word (k + 1) l.now.items = subst (λ (n : ℕ). Begins m start l.word n l.now.items) one l.invariant.begins in
     let is_level : IsLevel m (k + 1) l.now.items = subst (λ (n : ℕ). IsLevel m n l.now.items) one l.invariant.is_level in

@@ -1,7 +1,7 @@
 use Rattle.std.proofs.Common.{◌+◌, length, sym, ap, refl, ◌∙◌, arith}
 use Rattle.std.proofs.lemmas.Bool.{eqb-true}
 use Rattle.std.proofs.lemmas.List.{nil_from_length}
-use Rattle.lf_spelling.specs.declared.front.Given.TheVariants.{Nothing}
+use Rattle.lf_spelling.specs.declared.item_reader.Given.TheVariants.{Nothing}
 use Rattle.haproxy_front.proofs.Cuts.{no_name, unknown, gives_change, gives_value, some_bytes, name_fits}
 use Rattle.haproxy_front.proofs.flags.Flags.named.Goals as goal
 

@@ -1,6 +1,6 @@
 use Rattle.std.proofs.Common.{sym, subst}
 use Rattle.lf_spelling.specs.Building.{Builds}
-use Rattle.lf_spelling.specs.declared.front.Given.{Given}
+use Rattle.lf_spelling.specs.declared.item_reader.Given.{Given}
 use Rattle.lf_spelling.proofs.Joining.{built_nothing, built_spaced, built_braced}
 use Rattle.lf_spelling.proofs.built.Built.add.Goals as goal
 

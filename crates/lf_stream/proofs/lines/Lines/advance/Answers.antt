@@ -11,7 +11,7 @@ returns-in-Some-clause-next c = λ stream n s.
     let same = c.in-Some.ensures.same in
     let t = c.take_line.ensures in
     marks_next c.args.self.now _ c.take_line.new.self c.in-Some.at _ stream n c.take_line.result t.taken
-    (record { same = record { notes = refl; finished = refl }; fed = refl; given = refl; front = refl; bytes = rw (same.0, same.1, same.2) refl; end = same.2 })
+    (record { same = record { notes = refl; finished = refl }; fed = refl; given = refl; first_sort = refl; bytes = rw (same.0, same.1, same.2) refl; end = same.2 })
     (λ stream n s. next_ended _ stream n c.in-Some.at c.in-Some.ensures.found s)
     t.number t.mark s
 
@@ -19,7 +19,7 @@ pub returns-in-Some-clause-moves : goal.returns-in-Some-clause-moves
 returns-in-Some-clause-moves c =
     let same = c.in-Some.ensures.same in
     moves_next c.args.self.now _ c.take_line.new.self c.in-Some.at _ c.take_line.ensures.taken
-    (record { same = record { notes = refl; finished = refl }; fed = refl; given = refl; front = refl; bytes = rw (same.0, same.1, same.2) refl; end = same.2 })
+    (record { same = record { notes = refl; finished = refl }; fed = refl; given = refl; first_sort = refl; bytes = rw (same.0, same.1, same.2) refl; end = same.2 })
     (λ stream n s. next_ended _ stream n c.in-Some.at c.in-Some.ensures.found s)
 
 pub returns-clause-next : goal.returns-clause-next
@@ -27,7 +27,7 @@ returns-clause-next c = λ stream n s.
     let same = c.in_default.ensures.same in
     let t = c.take_line-2.ensures in
     marks_next c.args.self.now _ c.take_line-2.new.self _ _ stream n c.take_line-2.result t.taken
-    (record { same = record { notes = refl; finished = refl }; fed = refl; given = refl; front = refl; bytes = rw (same.0, same.1, same.2) refl; end = same.2 })
+    (record { same = record { notes = refl; finished = refl }; fed = refl; given = refl; first_sort = refl; bytes = rw (same.0, same.1, same.2) refl; end = same.2 })
     (λ stream n s. next_last _ stream n c.if-not-self.false c.in_default.ensures.found (c.has_rest.ensures.0 c.if-not-has_rest.false) s)
     t.number t.mark s
 
@@ -35,7 +35,7 @@ pub returns-clause-moves : goal.returns-clause-moves
 returns-clause-moves c =
     let same = c.in_default.ensures.same in
     moves_next c.args.self.now _ c.take_line-2.new.self _ _ c.take_line-2.ensures.taken
-    (record { same = record { notes = refl; finished = refl }; fed = refl; given = refl; front = refl; bytes = rw (same.0, same.1, same.2) refl; end = same.2 })
+    (record { same = record { notes = refl; finished = refl }; fed = refl; given = refl; first_sort = refl; bytes = rw (same.0, same.1, same.2) refl; end = same.2 })
     (λ stream n s. next_last _ stream n c.if-not-self.false c.in_default.ensures.found (c.has_rest.ensures.0 c.if-not-has_rest.false) s)
 
 pub returns-then-not-self-clause-next : goal.returns-then-not-self-clause-next
@@ -48,5 +48,5 @@ pub returns-then-not-has_rest-clause-next : goal.returns-then-not-has_rest-claus
 returns-then-not-has_rest-clause-next c = λ stream n s.
     let same = c.in_default.ensures.same in
     let l = c.args.self.now in
-    let none : l.buffer.start + 1 ≤ l.buffer.end + least_dropped l.front → ⊥ = rw (sym same.1, sym same.2) (iff_false c.has_rest.ensures c.if-not-has_rest.true) in
+    let none : l.buffer.start + 1 ≤ l.buffer.end + least_dropped l.first_sort → ⊥ = rw (sym same.1, sym same.2) (iff_false c.has_rest.ensures c.if-not-has_rest.true) in
     no_next_left l stream n (omega (arith, none)) s

@@ -14,5 +14,5 @@ returns-clause-stands c = λ stream n s.
       number = s.number;
       count = s.count;
       goes = goes_more l.finished stream s.given s.rest piece c.requires.open s.goes;
-      holds = subst (λ bytes. Holds l.notes l.front bytes (s.rest ++ piece)) (sym c.append.ensures.bytes) (holds_more l.notes l.front _ s.rest piece s.holds);
+      holds = subst (λ bytes. Holds l.notes l.first_sort bytes (s.rest ++ piece)) (sym c.append.ensures.bytes) (holds_more l.notes l.first_sort _ s.rest piece s.holds);
     }

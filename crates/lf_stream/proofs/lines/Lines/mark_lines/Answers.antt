@@ -12,7 +12,7 @@ loop-count-preserved c =
     let a = c.in-Some.ensures in
     let w = c.index_mut.ensures in
     marked_more c.args.self.now l.self c.advance.new.self _ l.count c.in-Some.mark
-    (record { same = record { notes = refl; finished = refl }; fed = refl; given = refl; front = refl; bytes = refl; end = refl })
+    (record { same = record { notes = refl; finished = refl }; fed = refl; given = refl; first_sort = refl; bytes = refl; end = refl })
     l.invariant (omega (arith, l.self.room_for_marks, c.loop-count-test.true)) a.moves a.kept.0 a.kept.1 a.next refl refl
 
 pub returns-in_default-clause-all : goal.returns-in_default-clause-all

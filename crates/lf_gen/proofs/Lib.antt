@@ -1,0 +1,13 @@
+pub mod Orders
+pub mod Cases
+pub mod Before
+pub mod LeastOfAll
+pub mod Lifted
+pub mod TextOrder
+pub mod NumberOrder
+pub mod Own
+pub mod NumberFirst
+pub mod TimeOrder
+pub mod TimeFirst
+pub mod Choosing
+pub mod DrawnRecords

@@ -1,0 +1,118 @@
+-- What a record's values keep, and what is filled.
+use Rattle.std.proofs.Common.{◌≡◌, ℕ, ◌+◌, ◌<◌, inl, inr, Bool, true, false, List, [], ◌∷◌, ◌++◌, length, refl, sym, ap, subst, ◌∙◌, append-nil, append_assoc, arith}
+use Rattle.std.specs.Prelude.{All, ℤ, Option, None, Some}
+use Rattle.std.proofs.lemmas.List.Elements.{All-nil, All-cons}
+use Rattle.lf_core.specs.declared.values.Moment.{Moment}
+use Rattle.lf_core.specs.declared.values.Value.{Value}
+use Rattle.lf_core.specs.declared.values.Value.TheVariants as value
+use Rattle.lf_layout.specs.Calendar.{IsDay}
+use Rattle.lf_layout.specs.Layouts.{IsMoment}
+use Rattle.lf_format.specs.declared.kind.Kind.{Kind}
+use Rattle.lf_format.specs.declared.kind.Kind.TheVariants as kind
+use Rattle.lf_format.specs.declared.format.Piece.{Piece}
+use Rattle.lf_format.specs.declared.format.Piece.TheVariants.{Literal, Slot}
+use Rattle.lf_format.specs.declared.slot.Slot.{Slot as OneSlot}
+use Rattle.lf_format.specs.Kinds.{HoldsKind}
+use Rattle.lf_format.specs.Slots.{Holds}
+use Rattle.lf_format.specs.Lines.{IsRecordOf}
+use Rattle.lf_format.specs.Keeps.{slots_in}
+use Rattle.lf_map.specs.declared.expr.Expr.{Expr as CodeExpr}
+use Rattle.lf_map.specs.declared.mapping.Mapped.{Mapped}
+use Rattle.lf_map.specs.declared.mapping.Mapped.TheVariants.{Rec, Unmapped}
+use Rattle.lf_map.specs.Answers.{IsDated, IsPushed}
+use Rattle.lf_map.specs.Exprs.{Expr, exprs_said}
+use Rattle.lf_map.specs.Shape.{MapShape, AreKinded}
+use Rattle.lf_map.specs.Mapped.{Fills, IsMapped, IsOfTarget, mapped_record}
+
+moment_dated : (k : Kind) (m : Moment) → HoldsKind k (value.Moment m) → IsMoment m
+moment_dated (kind.Clf d) m h = h.0
+moment_dated (kind.Iso d) m h = h.0
+moment_dated (kind.IsoMillis d) m h = h.0
+moment_dated (kind.Ha d) m h = h.0
+moment_dated k m h = absurd h
+
+day_dated : (k : Kind) (day : ℤ) → HoldsKind k (value.Day day) → IsDay day
+day_dated (kind.Date d) day h = h
+day_dated k day h = absurd h
+
+clock_dated : (k : Kind) (second : ℕ) → HoldsKind k (value.Clock second) → second < 86400
+clock_dated (kind.Clock d) second h = h
+clock_dated k second h = absurd h
+
+held_dated : (slot : OneSlot) (v : Value) → Holds slot v → IsDated v
+held_dated slot (value.Moment m) h = moment_dated slot.kind m h.0
+held_dated slot (value.Day day) h = day_dated slot.kind day h.0
+held_dated slot (value.Clock second) h = clock_dated slot.kind second h.0
+held_dated slot v h = tt
+
+pub all_dated : (pieces : List Piece) (rec : List Value) → IsRecordOf pieces rec → All IsDated rec
+all_dated [] [] h = All-nil IsDated
+all_dated [] (v ∷ rec) h = absurd h
+all_dated (Literal text ∷ pieces) rec h = all_dated pieces rec h
+all_dated (Slot slot ∷ pieces) [] h = absurd h
+all_dated (Slot slot ∷ pieces) (v ∷ rec) h = All-cons IsDated v rec (held_dated slot v h.0) (all_dated pieces rec h.1)
+
+said_length : (es : List CodeExpr) → length (exprs_said es) ≡ length es
+said_length [] = refl
+said_length (e ∷ es) = let h = said_length es in omega (arith, h)
+
+kinded_length : (source slots : List OneSlot) (es : List Expr) → AreKinded source slots es → length es ≡ length slots
+kinded_length source [] [] h = refl
+kinded_length source [] (e ∷ es) h = absurd h
+kinded_length source (slot ∷ slots) [] h = absurd h
+kinded_length source (slot ∷ slots) (e ∷ es) h = let k = kinded_length source slots es h.1 in omega (arith, k)
+
+pub map_count : (source slots : List OneSlot) (es : List CodeExpr) → AreKinded source slots (exprs_said es) → length es ≡ length slots
+map_count source slots es h = sym (said_length es) ∙ kinded_length source slots (exprs_said es) h
+
+module _ (k : ℕ) (slot : OneSlot) (pieces : List Piece) (values : List (Option Value)) (done after : List Value) where
+  pub fill_on : (v : Option Value) (answer : Mapped) → IsPushed true slot v done after → Fills (k + 1) pieces values after answer → Fills k (Slot slot ∷ pieces) (v ∷ values) done answer
+  fill_on None answer h f = absurd h
+  fill_on (Some v) answer h f = inl (h.0, subst (λ (d : List Value). Fills (k + 1) pieces values d answer) h.1 f)
+
+  pub fill_ends : (v : Option Value) → IsPushed false slot v done after → Fills k (Slot slot ∷ pieces) (v ∷ values) done (Unmapped k)
+  fill_ends None h = refl
+  fill_ends (Some v) h = inr (h, refl)
+
+made_of : List Value → Mapped → List Value
+made_of other (Rec made) = made
+made_of other (Unmapped k) = other
+
+filled_record : (k : ℕ) (pieces : List Piece) (values : List (Option Value)) (done made : List Value) → Fills k pieces values done (Rec made) → (tail : List Value) × (made ≡ done ++ tail) × IsRecordOf pieces tail
+unfolding made_of
+filled_record k [] values done made h = ([], ap (λ (m : Mapped). made_of [] m) h ∙ sym (append-nil done), tt)
+filled_record k (Literal text ∷ pieces) values done made h = filled_record k pieces values done made h
+filled_record k (Slot slot ∷ pieces) [] done made h = absurd h
+filled_record k (Slot slot ∷ pieces) (None ∷ values) done made h = absurd (cc)
+filled_record k (Slot slot ∷ pieces) (Some v ∷ values) done made (inl h) =
+    let r = filled_record (k + 1) pieces values (done ++ v ∷ []) made h.1 in
+    (v ∷ r.0, r.1 ∙ append_assoc done (v ∷ []) r.0, (h.0, r.2))
+filled_record k (Slot slot ∷ pieces) (Some v ∷ values) done made (inr h) = let e = h.1 in absurd (cc)
+
+pub of_target : (map : MapShape) (rec : List Value) (answer : Mapped) → IsMapped map rec answer → IsOfTarget map answer
+of_target map rec (Rec made) h =
+    let r = filled_record 1 map.target.pieces (mapped_record (exprs_said map.exprs) rec) [] made h in
+    subst (λ (w : List Value). IsRecordOf map.target.pieces w) (sym r.1) r.2
+of_target map rec (Unmapped k) h = tt
+
+filled_one : (k : ℕ) (pieces : List Piece) (values : List (Option Value)) (done : List Value) (one other : Mapped) → Fills k pieces values done one → Fills k pieces values done other → one ≡ other
+filled_one k [] values done one other h e = h ∙ sym e
+filled_one k (Literal text ∷ pieces) values done one other h e = filled_one k pieces values done one other h e
+filled_one k (Slot slot ∷ pieces) [] done one other h e = absurd h
+filled_one k (Slot slot ∷ pieces) (None ∷ values) done one other h e = h ∙ sym e
+filled_one k (Slot slot ∷ pieces) (Some v ∷ values) done one other (inl h) (inl e) = filled_one (k + 1) pieces values (done ++ v ∷ []) one other h.1 e.1
+filled_one k (Slot slot ∷ pieces) (Some v ∷ values) done one other (inl h) (inr e) = absurd (e.0 h.0)
+filled_one k (Slot slot ∷ pieces) (Some v ∷ values) done one other (inr h) (inl e) = absurd (h.0 e.0)
+filled_one k (Slot slot ∷ pieces) (Some v ∷ values) done one other (inr h) (inr e) = h.1 ∙ sym e.1
+
+pub mapped_one : (map : MapShape) (rec : List Value) (one other : Mapped) → IsMapped map rec one → IsMapped map rec other → one ≡ other
+mapped_one map rec one other h e = filled_one 1 map.target.pieces (mapped_record (exprs_said map.exprs) rec) [] one other h e
+
+-- what is left of the pieces has as many slots as what is left of the expressions
+pub count_literal : (pieces : List Piece) (one : Piece) (more : List Piece) (text : List ℕ) (n : ℕ) → pieces ≡ one ∷ more → one ≡ Literal text → n ≡ length (slots_in pieces) → n ≡ length (slots_in more)
+count_literal pieces one more text n a b h = h ∙ ap (λ (ps : List Piece). length (slots_in ps)) (a ∙ ap (λ (p : Piece). p ∷ more) b)
+
+pub count_slot : (pieces : List Piece) (one : Piece) (more : List Piece) (slot : OneSlot) (n : ℕ) → pieces ≡ one ∷ more → one ≡ Slot slot → n + 1 ≡ length (slots_in pieces) → n ≡ length (slots_in more)
+count_slot pieces one more slot n a b h =
+    let e : n + 1 ≡ length (slots_in (Slot slot ∷ more)) = h ∙ ap (λ (ps : List Piece). length (slots_in ps)) (a ∙ ap (λ (p : Piece). p ∷ more) b) in
+    omega (arith, e)

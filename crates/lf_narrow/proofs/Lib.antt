@@ -1,0 +1,17 @@
+pub mod Cutting
+pub mod ClassBits
+pub mod Digits
+pub mod Ranges
+pub mod SameBounds
+pub mod Listed
+pub mod Effect
+pub mod Cases
+pub mod Fitting
+pub mod Kept
+pub mod Steps
+pub mod Unique
+pub mod Only
+pub mod Exact
+pub mod Decides
+pub mod Answered
+pub mod StillKept

@@ -1,7 +1,0 @@
-use Rattle.lf_spelling.proofs.KeepsLaws.{keeps_format}
-use Rattle.lf_spelling.proofs.front.read_whole.Goals as goal
-
-pub new-requires : goal.new-requires
-new-requires g c =
-    let f = g.F.Front in
-    keeps_format f.reading f.item_is f.fault_is g.met.F.Front.laws c.args.front c.args.text.now c.in-Ok.pieces.items c.requires.short c.in-Ok.ensures
