@@ -1,33 +1,43 @@
 -- The words are one command.
-use Rattle.std.proofs.Common.{◌≡◌, ℕ, Bool, true, false, cond, List, refl, sym, ◌∙◌, ap, subst, inl, inr}
-use Rattle.std.specs.Prelude.{Option, None, Some}
-use Rattle.std.proofs.lemmas.Bool.{cases_Bool, false≢true}
+use Rattle.std.proofs.Common.{◌≡◌, ℕ, List, refl, sym, ◌∙◌, ap, subst, inl, inr, length}
+use Rattle.std.specs.Prelude.{Option, None, Some, Ok, Err}
 use Rattle.lf_compile.specs.Accepted.{IsAccepted, IsCauseOf, IsAnswer}
 use Rattle.lf_compile.specs.declared.refused.Confusion.{Confusion}
 use Rattle.lf_compile.specs.declared.refused.Refused.{Refused}
 use Rattle.lf_compile.specs.declared.refused.Refused.TheVariants as causes
 use Rattle.lf_format.specs.Shape.{Shape}
-use Rattle.lf_format.specs.Keeps.{EachKept}
+use Rattle.lf_format.specs.Keeps.{EachKept, slots_in}
+use Rattle.lf_format.specs.declared.slot.Slot.{Slot}
 use Rattle.lf_machine.specs.LineBytes.{LiteralsAreBytes}
+use Rattle.lf_expression.specs.Exprs.{Expr}
+use Rattle.lf_map.specs.Filling.{Answer, Form, Reads, ParsesMap, blank}
+use Rattle.lf_map.specs.Letters.{parts_of}
+use Rattle.lf_map.specs.declared.fault.MapFault.{MapFault}
+use Rattle.lf_map.proofs.Answered.{answer_one}
 use Rattle.lf_words.specs.declared.command.Command.{Command as CommandLine}
 use Rattle.lf_words.specs.declared.command.Side.{Side}
 use Rattle.lf_words.specs.declared.command.Verb.{Verb}
 use Rattle.lf_words.specs.declared.command.Verb.TheVariants as verbs
-use Rattle.lf_words.specs.Command.{IsCommand as IsLine, IsOneCommandOrBad, IsWord}
+use Rattle.lf_words.specs.Command.{IsCommand as IsLine, IsOneCommandOrBad, IsWord, HasTarget}
 use Rattle.lf_app.specs.declared.commands.Command.{Command}
-use Rattle.lf_app.specs.declared.commands.Command.TheVariants.{Lines, Refuse}
+use Rattle.lf_app.specs.declared.commands.Command.TheVariants.{Lines, Readable, Show, Generate, Refuse}
 use Rattle.lf_app.specs.declared.commands.Job.TheVariants as jobs
+use Rattle.lf_app.specs.declared.commands.Purpose.{Purpose}
+use Rattle.lf_app.specs.declared.commands.Purpose.TheVariants as purposes
 use Rattle.lf_app.specs.declared.commands.Refusal.{Refusal}
 use Rattle.lf_app.specs.declared.commands.Refusal.TheVariants as refusals
+use Rattle.lf_app.specs.declared.commands.WhichSide.{WhichSide}
+use Rattle.lf_app.specs.declared.commands.WhichSide.TheVariants as which
 use Rattle.lf_app.specs.Sides.{Gives}
-use Rattle.lf_app.specs.Commands.{IsAsked, faulty, plain, accepted, refused, plain_command, accepted_command, confused_command, IsRefusedFor, AsksFor, IsLineFor, IsCommand, HasOneCommand, is_built, is_compiling}
+use Rattle.lf_translate.specs.Translations.{Plan, MapsBy}
+use Rattle.lf_app.specs.Commands.{IsRefusedFor, confused_command, IfAccepted, accepted, refused, BySide, faulty, given, AsksOf, AsksToMap, unmapped, mapped, AsksToTranslate, IsTranslation, AsksBy, AsksFor, IsLineFor, IsCommand, HasOneCommand}
 use Rattle.lf_app.specs.Progress.{IsReady, HasRecords}
 use Rattle.lf_app.proofs.SideLaws.{HasOneSide, SpelledKeeps, NarrowedKeeps, IsKept, gives_kept, side_tells}
 use Rattle.lf_json.proofs.Sorts.{record_json}
 
 -- Each side gives one format, or it is refused for one thing.
 abbrev pub SidesAreOne : Type 0
-SidesAreOne = (side : Side) → HasOneSide side
+SidesAreOne = (one : WhichSide) (side : Side) → HasOneSide one side
 
 -- Each format has one answer at most.
 abbrev pub AnswersOnce : Type 0
@@ -57,47 +67,76 @@ refused_same v causes.OutOfMemory a b p q = absurd p
 not_memory : (v : Verb) (cause : Refused) (a : Command) → IsRefusedFor v cause a → cause ≡ causes.OutOfMemory → ⊥
 not_memory v cause a p e = subst (λ (x : Refused). IsRefusedFor v x a) e p
 
--- A verb asks for one thing of a side.
-asked_one : (v : Verb) (source : Side) (a b : Command) → SidesAreOne → AnswersOnce → IsAsked v source a → IsAsked v source b → a ≡ b
-asked_one v source a b one once (faulty p f e) (faulty q g d) = e ∙ ap (λ (r : Refusal). Refuse r) ((one source).one_refusal p q f g) ∙ sym d
-asked_one v source a b one once (faulty p f e) (plain g s t d) = absurd ((one source).not_both g p s f)
-asked_one v source a b one once (faulty p f e) (accepted g s t h d) = absurd ((one source).not_both g p s f)
-asked_one v source a b one once (faulty p f e) (refused g cause s t h d) = absurd ((one source).not_both g p s f)
-asked_one v source a b one once (plain g s t d) (faulty q f e) = absurd ((one source).not_both g q s f)
-asked_one v source a b one once (accepted g s t h d) (faulty q f e) = absurd ((one source).not_both g q s f)
-asked_one v source a b one once (refused g cause s t h d) (faulty q f e) = absurd ((one source).not_both g q s f)
-asked_one v source a b one once (plain g s t d) (plain f r u e) = d ∙ ap (plain_command v) ((one source).one_format g f s r) ∙ sym e
-asked_one v source a b one once (plain g s t d) (accepted f r u h e) = absurd (false≢true (sym t ∙ u))
-asked_one v source a b one once (plain g s t d) (refused f cause r u h e) = absurd (false≢true (sym t ∙ u))
-asked_one v source a b one once (accepted g s t h d) (plain f r u e) = absurd (false≢true (sym u ∙ t))
-asked_one v source a b one once (refused g cause s t h d) (plain f r u e) = absurd (false≢true (sym u ∙ t))
-asked_one v source a b one once (accepted g s t h d) (accepted f r u k e) = d ∙ ap (accepted_command v) ((one source).one_format g f s r) ∙ sym e
-asked_one v source a b one once (accepted g s t h d) (refused f cause r u k e) =
-    let same = (one source).one_format f g r s in
-    absurd (no_cause once g cause h (subst (λ (x : Shape). IsCauseOf x cause) same k) (not_memory v cause b e))
-asked_one v source a b one once (refused g cause s t h d) (accepted f r u k e) =
-    let same = (one source).one_format g f s r in
-    absurd (no_cause once f cause k (subst (λ (x : Shape). IsCauseOf x cause) same h) (not_memory v cause a d))
-asked_one v source a b one once (refused g cause s t h d) (refused f other r u k e) =
-    let same = (one source).one_format g f s r in
-    let causes_same = one_cause once f cause other (subst (λ (x : Shape). IsCauseOf x cause) same h) k (not_memory v cause a d) (not_memory v other b e) in
-    refused_same v other a b (subst (λ (x : Refused). IsRefusedFor v x a) causes_same d) e
+if_accepted_one : AnswersOnce → (v : Verb) (format : Shape) (one a b : Command) → IfAccepted v format one a → IfAccepted v format one b → a ≡ b
+if_accepted_one once v format one a b (accepted h d) (accepted k e) = d ∙ sym e
+if_accepted_one once v format one a b (accepted h d) (refused cause k e) = absurd (no_cause once format cause h k (not_memory v cause b e))
+if_accepted_one once v format one a b (refused cause h d) (accepted k e) = absurd (no_cause once format cause k h (not_memory v cause a d))
+if_accepted_one once v format one a b (refused cause h d) (refused other k e) =
+    let same = one_cause once format cause other h k (not_memory v cause a d) (not_memory v other b e) in
+    refused_same v other a b (subst (λ (x : Refused). IsRefusedFor v x a) same d) e
 
--- What a command line asks for, where it is built, and where it isn't.
-pub asks-built : (line : CommandLine) (c : Command) → is_built line.verb ≡ true → AsksFor line c → IsAsked line.verb line.source c
-asks-built line c t h = subst (λ (b : Bool). cond b (IsAsked line.verb line.source c) (c ≡ Refuse refusals.NotBuilt)) t h
+-- By a side one thing is asked for, where by each format one is.
+by_side_one : (one : WhichSide) (side : Side) (Asks : Shape → Command → Type 0) (a b : Command) → HasOneSide one side → ((format : Shape) (a b : Command) → Asks format a → Asks format b → a ≡ b) → BySide one side Asks a → BySide one side Asks b → a ≡ b
+by_side_one one side Asks a b sides each (faulty p f e) (faulty q g d) = e ∙ ap (λ (r : Refusal). Refuse r) (sides.one_refusal p q f g) ∙ sym d
+by_side_one one side Asks a b sides each (faulty p f e) (given g s h) = absurd (sides.not_both g p s f)
+by_side_one one side Asks a b sides each (given g s h) (faulty q f e) = absurd (sides.not_both g q s f)
+by_side_one one side Asks a b sides each (given g s h) (given f r k) =
+    each f a b (subst (λ (x : Shape). Asks x a) (sides.one_format g f s r) h) k
 
-pub asked-built : (line : CommandLine) (c : Command) → is_built line.verb ≡ true → IsAsked line.verb line.source c → AsksFor line c
-asked-built line c t h = subst (λ (b : Bool). cond b (IsAsked line.verb line.source c) (c ≡ Refuse refusals.NotBuilt)) (sym t) h
+asks_of_one : AnswersOnce → (p : Purpose) (format : Shape) (a b : Command) → AsksOf p format a → AsksOf p format b → a ≡ b
+asks_of_one once purposes.Check format a b p q = if_accepted_one once verbs.Check format (Readable (length (slots_in format.pieces))) a b p q
+asks_of_one once purposes.Read format a b p q = if_accepted_one once verbs.Read format (Lines (jobs.Read format)) a b p q
+asks_of_one once purposes.Write format a b p q = p ∙ sym q
+asks_of_one once purposes.Show format a b p q = p ∙ sym q
+asks_of_one once (purposes.Generate seed count) format a b p q = if_accepted_one once verbs.Gen format (Generate format seed count) a b p q
 
-pub asks-other : (line : CommandLine) (c : Command) → is_built line.verb ≡ false → AsksFor line c → c ≡ Refuse refusals.NotBuilt
-asks-other line c f h = subst (λ (b : Bool). cond b (IsAsked line.verb line.source c) (c ≡ Refuse refusals.NotBuilt)) f h
+parses_one : (plan : Plan) (one other : Answer) → ParsesMap plan.map plan.source plan.target one → ParsesMap plan.map plan.source plan.target other → one ≡ other
+parses_one plan one other p q =
+    answer_one (slots_in plan.source.pieces) (slots_in plan.target.pieces) plan.map (parts_of plan.map) (blank (length (slots_in plan.target.pieces))) one other p q
 
-asks_one : (line : CommandLine) (a b : Command) → SidesAreOne → AnswersOnce → AsksFor line a → AsksFor line b → a ≡ b
-asks_one line a b one once p q = elim (cases_Bool (is_built line.verb)) [
-  | inl t ↦ asked_one line.verb line.source a b one once (asks-built line a t p) (asks-built line b t q)
-  | inr f ↦ asks-other line a f p ∙ sym (asks-other line b f q)
-]
+same_fault : (a b : MapFault) → ◌≡◌ {A = Answer} (Err a) (Err b) → a ≡ b
+same_fault a b e = cc
+
+not_both_answers : (exprs : List Expr) (fault : MapFault) → ◌≡◌ {A = Answer} (Ok exprs) (Err fault) → ⊥
+not_both_answers exprs fault e = cc
+
+to_map_one : AnswersOnce → (plan : Plan) (a b : Command) → AsksToMap plan a → AsksToMap plan b → a ≡ b
+to_map_one once plan a b (unmapped f p e) (unmapped g q d) =
+    e ∙ ap (λ (x : MapFault). Refuse (refusals.BadMap x)) (same_fault f g (parses_one plan (Err f) (Err g) p q)) ∙ sym d
+to_map_one once plan a b (unmapped f p e) (mapped es q h) = absurd (not_both_answers es f (parses_one plan (Ok es) (Err f) q p))
+to_map_one once plan a b (mapped es q h) (unmapped f p e) = absurd (not_both_answers es f (parses_one plan (Ok es) (Err f) q p))
+to_map_one once plan a b (mapped es q h) (mapped os p k) = if_accepted_one once verbs.Translate plan.source (Lines (jobs.Translate plan)) a b h k
+
+to_translate_one : AnswersOnce → SidesAreOne → (source to : Side) (map : List ℕ) (a b : Command) → AsksToTranslate source to map a → AsksToTranslate source to map b → a ≡ b
+to_translate_one once one source to map a b p q =
+    by_side_one which.Source source (λ from. BySide which.Target to (λ goal. AsksToMap (record { source = from; target = goal; map = map }))) a b (one which.Source source) (λ from a b p q.
+    by_side_one which.Target to (λ goal. AsksToMap (record { source = from; target = goal; map = map })) a b (one which.Target to) (λ goal a b p q.
+    to_map_one once (record { source = from; target = goal; map = map }) a b p q) p q) p q
+
+same_side : (a b : Side) → Some a ≡ Some b → a ≡ b
+same_side a b e = cc
+
+same_text : (a b : List ℕ) → Some a ≡ Some b → a ≡ b
+same_text a b e = cc
+
+translation_one : AnswersOnce → SidesAreOne → (line : CommandLine) (a b : Command) → IsTranslation line a → IsTranslation line b → a ≡ b
+translation_one once one line a b p q =
+    let to = same_side q.to p.to (sym q.target ∙ p.target) in
+    let by = same_text q.by p.by (sym q.map ∙ p.map) in
+    let asks = subst (λ (x : List ℕ). AsksToTranslate line.source p.to x b) by (subst (λ (x : Side). AsksToTranslate line.source x q.by b) to q.asks) in
+    to_translate_one once one line.source p.to p.by a b p.asks asks
+
+source_one : AnswersOnce → SidesAreOne → (p : Purpose) (source : Side) (a b : Command) → BySide which.Source source (AsksOf p) a → BySide which.Source source (AsksOf p) b → a ≡ b
+source_one once one p source a b h g = by_side_one which.Source source (AsksOf p) a b (one which.Source source) (asks_of_one once p) h g
+
+-- A command line of a verb asks for one thing.
+asks_one : AnswersOnce → SidesAreOne → (v : Verb) (line : CommandLine) (a b : Command) → AsksBy v line a → AsksBy v line b → a ≡ b
+asks_one once one verbs.Check line a b p q = source_one once one purposes.Check line.source a b p q
+asks_one once one verbs.Read line a b p q = source_one once one purposes.Read line.source a b p q
+asks_one once one verbs.Write line a b p q = source_one once one purposes.Write line.source a b p q
+asks_one once one verbs.Show line a b p q = source_one once one purposes.Show line.source a b p q
+asks_one once one verbs.Translate line a b p q = translation_one once one line a b p q
+asks_one once one verbs.Gen line a b p q = source_one once one (purposes.Generate line.seed line.count) line.source a b p q
 
 abbrev pub LinesAreOne : Type 0
 LinesAreOne = (words : List (List ℕ)) → IsOneCommandOrBad words
@@ -106,7 +145,7 @@ line_for_one : (words : List (List ℕ)) (a b : Command) → LinesAreOne → Sid
 line_for_one words a b lines one once p q = elim (lines words) [
   | inl u ↦
       let same : q.line ≡ p.line = u.2 q.line q.is ∙ sym (u.2 p.line p.is) in
-      asks_one p.line a b one once p.asks (subst (λ (l : CommandLine). AsksFor l b) same q.asks)
+      asks_one once one p.line.verb p.line a b p.asks (subst (λ (l : CommandLine). AsksFor l b) same q.asks)
   | inr bad ↦ absurd (bad p.line p.is)
 ]
 
@@ -123,72 +162,104 @@ command_one words a b lines one once (inr line) (inr other) = line_for_one words
 abbrev pub FormatsAreWords : Type 0
 FormatsAreWords = (words : List (List ℕ)) (line : CommandLine) → IsLine words line → IsWord line.source.format
 
+-- A translation has a target and a map.
+abbrev pub TranslationsHaveTargets : Type 0
+TranslationsHaveTargets = (words : List (List ℕ)) (line : CommandLine) → IsLine words line → line.verb ≡ verbs.Translate → HasTarget line
+
 -- Each format that keeps what a format keeps has an answer.
 abbrev pub AnswersSome : Type 0
 AnswersSome = (format : Shape) → EachKept format.pieces → LiteralsAreBytes format.pieces → (answer : Option Refused) × IsAnswer format answer
 
-answered : (v : Verb) (source : Side) (format : Shape) → Gives source format → is_compiling v ≡ true → (answer : Option Refused) → IsAnswer format answer → (c : Command) × IsAsked v source c
-answered v source format s t None h = (accepted_command v format, accepted format s t h refl)
-answered v source format s t (Some (causes.TooLarge size)) h = (Refuse (refusals.TooLarge size), refused format (causes.TooLarge size) s t h.0 refl)
-answered v source format s t (Some (causes.Hash rec)) h = (Refuse (refusals.NoteLine rec), refused format (causes.Hash rec) s t h.0 refl)
-answered v source format s t (Some (causes.Ambiguous confusion)) h = (confused_command v confusion, refused format (causes.Ambiguous confusion) s t h.0 refl)
-answered v source format s t (Some causes.OutOfMemory) h = absurd (h.1 refl)
+-- Each text is a map or has a fault.
+abbrev pub MapsAreDecided : Type 0
+MapsAreDecided = (source target : List Slot) (text : List ℕ) (form : Form) → (answer : Answer) × Reads source target text (parts_of text) form answer
 
-given_asks : (v : Verb) (source : Side) (format : Shape) → SpelledKeeps → NarrowedKeeps → AnswersSome → IsWord source.format → Gives source format → (c : Command) × IsAsked v source c
-given_asks v source format spelled narrowed answers word s = elim (cases_Bool (is_compiling v)) [
-  | inl t ↦
-      let kept = gives_kept source format spelled narrowed word s in
-      let answer = answers format kept.0 kept.1 in
-      answered v source format s t answer.0 answer.1
-  | inr f ↦ (plain_command v format, plain format s f refl)
-]
+answered : (v : Verb) (format : Shape) (one : Command) (answer : Option Refused) → IsAnswer format answer → (c : Command) × IfAccepted v format one c
+answered v format one None h = (one, accepted h refl)
+answered v format one (Some (causes.TooLarge size)) h = (Refuse (refusals.TooLarge size), refused (causes.TooLarge size) h.0 refl)
+answered v format one (Some (causes.Hash rec)) h = (Refuse (refusals.NoteLine rec), refused (causes.Hash rec) h.0 refl)
+answered v format one (Some (causes.Ambiguous confusion)) h = (confused_command v confusion, refused (causes.Ambiguous confusion) h.0 refl)
+answered v format one (Some causes.OutOfMemory) h = absurd (h.1 refl)
 
-some_asked : (v : Verb) (source : Side) → SidesAreOne → SpelledKeeps → NarrowedKeeps → AnswersSome → IsWord source.format → (c : Command) × IsAsked v source c
-some_asked v source one spelled narrowed answers word = elim (one source).some [
-  | inl given ↦ given_asks v source given.0 spelled narrowed answers word given.1
+if_accepted_some : AnswersSome → (v : Verb) (format : Shape) (one : Command) → IsKept format → (c : Command) × IfAccepted v format one c
+if_accepted_some answers v format one kept =
+    let answer = answers format kept.0 kept.1 in
+    answered v format one answer.0 answer.1
+
+by_side_some : (one : WhichSide) (side : Side) (Asks : Shape → Command → Type 0) → HasOneSide one side → ((format : Shape) → Gives side format → (c : Command) × Asks format c) → (c : Command) × BySide one side Asks c
+by_side_some one side Asks sides each = elim sides.some [
+  | inl gives ↦ let asked = each gives.0 gives.1 in (asked.0, given gives.0 gives.1 asked.1)
   | inr fault ↦ (Refuse fault.0, faulty fault.0 fault.1 refl)
 ]
 
-asked-other : (line : CommandLine) → is_built line.verb ≡ false → AsksFor line (Refuse refusals.NotBuilt)
-asked-other line f = subst (λ (b : Bool). cond b (IsAsked line.verb line.source (Refuse refusals.NotBuilt)) (Refuse refusals.NotBuilt ≡ Refuse refusals.NotBuilt)) (sym f) refl
+asks_of_some : AnswersSome → (p : Purpose) (format : Shape) → IsKept format → (c : Command) × AsksOf p format c
+asks_of_some answers purposes.Check format kept = if_accepted_some answers verbs.Check format (Readable (length (slots_in format.pieces))) kept
+asks_of_some answers purposes.Read format kept = if_accepted_some answers verbs.Read format (Lines (jobs.Read format)) kept
+asks_of_some answers purposes.Write format kept = (Lines (jobs.Write format), refl)
+asks_of_some answers purposes.Show format kept = (Show format, refl)
+asks_of_some answers (purposes.Generate seed count) format kept = if_accepted_some answers verbs.Gen format (Generate format seed count) kept
 
-some_asks : (line : CommandLine) → SidesAreOne → SpelledKeeps → NarrowedKeeps → AnswersSome → IsWord line.source.format → (c : Command) × AsksFor line c
-some_asks line one spelled narrowed answers word = elim (cases_Bool (is_built line.verb)) [
-  | inl t ↦ let asked = some_asked line.verb line.source one spelled narrowed answers word in (asked.0, asked-built line asked.0 t asked.1)
-  | inr f ↦ (Refuse refusals.NotBuilt, asked-other line f)
-]
+map_answered : AnswersSome → (plan : Plan) (answer : Answer) → ParsesMap plan.map plan.source plan.target answer → IsKept plan.source → (c : Command) × AsksToMap plan c
+map_answered answers plan (Err fault) h kept = (Refuse (refusals.BadMap fault), unmapped fault h refl)
+map_answered answers plan (Ok exprs) h kept =
+    let asked = if_accepted_some answers verbs.Translate plan.source (Lines (jobs.Translate plan)) kept in
+    (asked.0, mapped exprs h asked.1)
 
-some_command : (words : List (List ℕ)) → LinesAreOne → FormatsAreWords → SidesAreOne → SpelledKeeps → NarrowedKeeps → AnswersSome → (c : Command) × IsCommand words c
-some_command words lines formats one spelled narrowed answers = elim (lines words) [
-  | inl line ↦ let asks = some_asks line.0 one spelled narrowed answers (formats words line.0 line.1) in (asks.0, inr (record { line = line.0; is = line.1; asks = asks.1 }))
+to_map_some : AnswersSome → MapsAreDecided → (plan : Plan) → IsKept plan.source → (c : Command) × AsksToMap plan c
+to_map_some answers maps plan kept =
+    let answer = maps (slots_in plan.source.pieces) (slots_in plan.target.pieces) plan.map (blank (length (slots_in plan.target.pieces))) in
+    map_answered answers plan answer.0 answer.1 kept
+
+-- What is known of the sides and the formats.
+pub record Facts : Type 0 where
+  pub sides : SidesAreOne
+  pub spelled : SpelledKeeps
+  pub narrowed : NarrowedKeeps
+  pub answers : AnswersSome
+  pub maps : MapsAreDecided
+
+source_some : Facts → (p : Purpose) (source : Side) → IsWord source.format → (c : Command) × BySide which.Source source (AsksOf p) c
+source_some facts p source word = by_side_some which.Source source (AsksOf p) (facts.sides which.Source source) (λ format gives.
+    asks_of_some facts.answers p format (gives_kept source format facts.spelled facts.narrowed word gives))
+
+to_translate_some : Facts → (source to : Side) (map : List ℕ) → IsWord source.format → (c : Command) × AsksToTranslate source to map c
+to_translate_some facts source to map word =
+    by_side_some which.Source source (λ from. BySide which.Target to (λ goal. AsksToMap (record { source = from; target = goal; map = map }))) (facts.sides which.Source source) (λ from gives.
+    by_side_some which.Target to (λ goal. AsksToMap (record { source = from; target = goal; map = map })) (facts.sides which.Target to) (λ goal other.
+    to_map_some facts.answers facts.maps (record { source = from; target = goal; map = map }) (gives_kept source from facts.spelled facts.narrowed word gives)))
+
+translation_some : Facts → (line : CommandLine) → IsWord line.source.format → HasTarget line → (c : Command) × IsTranslation line c
+translation_some facts line word t =
+    let asked = to_translate_some facts line.source t.to t.by word in
+    (asked.0, record { to = t.to; by = t.by; target = t.target; map = t.map; asks = asked.1 })
+
+some_asks : Facts → (v : Verb) (line : CommandLine) → IsWord line.source.format → (v ≡ verbs.Translate → HasTarget line) → (c : Command) × AsksBy v line c
+some_asks facts verbs.Check line word target = source_some facts purposes.Check line.source word
+some_asks facts verbs.Read line word target = source_some facts purposes.Read line.source word
+some_asks facts verbs.Write line word target = source_some facts purposes.Write line.source word
+some_asks facts verbs.Show line word target = source_some facts purposes.Show line.source word
+some_asks facts verbs.Translate line word target = translation_some facts line word (target refl)
+some_asks facts verbs.Gen line word target = source_some facts (purposes.Generate line.seed line.count) line.source word
+
+some_command : (words : List (List ℕ)) → LinesAreOne → FormatsAreWords → TranslationsHaveTargets → Facts → (c : Command) × IsCommand words c
+some_command words lines formats targets facts = elim (lines words) [
+  | inl line ↦
+      let asks = some_asks facts line.0.verb line.0 (formats words line.0 line.1) (targets words line.0 line.1) in
+      (asks.0, inr (record { line = line.0; is = line.1; asks = asks.1 }))
   | inr bad ↦ (Refuse refusals.BadWords, inl (bad, refl))
 ]
 
 -- Any words are one command.
-pub words_one : (words : List (List ℕ)) → LinesAreOne → FormatsAreWords → SidesAreOne → SpelledKeeps → NarrowedKeeps → AnswersOnce → AnswersSome → HasOneCommand words
-words_one words lines formats one spelled narrowed once answers =
-    let some = some_command words lines formats one spelled narrowed answers in
-    record { command = some.0; is = some.1; only = λ other h. command_one words other some.0 lines one once h some.1 }
+pub words_one : (words : List (List ℕ)) → LinesAreOne → FormatsAreWords → TranslationsHaveTargets → AnswersOnce → Facts → HasOneCommand words
+words_one words lines formats targets once facts =
+    let some = some_command words lines formats targets facts in
+    record { command = some.0; is = some.1; only = λ other h. command_one words other some.0 lines facts.sides once h some.1 }
 
 -- Two commands that words are are the same.
 pub same_command : {words : List (List ℕ)} {a b : Command} → HasOneCommand words → IsCommand words a → IsCommand words b → a ≡ b
 same_command {a = a} {b = b} one p q = one.only a p ∙ sym (one.only b q)
 
-plain_ready : (v : Verb) (format : Shape) → IsReady (plain_command v format)
-plain_ready verbs.Check format = tt
-plain_ready verbs.Read format = tt
-plain_ready verbs.Write format = tt
-plain_ready verbs.Translate format = tt
-plain_ready verbs.Show format = tt
-plain_ready verbs.Gen format = tt
-
-accepted_ready : (v : Verb) (format : Shape) → IsAccepted format → IsReady (accepted_command v format)
-accepted_ready verbs.Check format h = tt
-accepted_ready verbs.Read format h = h.readable
-accepted_ready verbs.Write format h = tt
-accepted_ready verbs.Translate format h = tt
-accepted_ready verbs.Show format h = tt
-accepted_ready verbs.Gen format h = tt
+-- ---- what holds of each command that words are
 
 confused_records : (format : Shape) (confusion : Confusion) → IsCauseOf format (causes.Ambiguous confusion) → HasRecords confusion
 confused_records format confusion h = record {
@@ -199,10 +270,10 @@ confused_records format confusion h = record {
 confused_ready : (v : Verb) (confusion : Confusion) → HasRecords confusion → IsReady (confused_command v confusion)
 confused_ready verbs.Check confusion h = h
 confused_ready verbs.Read confusion h = h
-confused_ready verbs.Write confusion h = tt
-confused_ready verbs.Translate confusion h = tt
-confused_ready verbs.Show confusion h = tt
-confused_ready verbs.Gen confusion h = tt
+confused_ready verbs.Write confusion h = h
+confused_ready verbs.Translate confusion h = h
+confused_ready verbs.Show confusion h = h
+confused_ready verbs.Gen confusion h = h
 
 refused_ready : (v : Verb) (format : Shape) (cause : Refused) (c : Command) → IsCauseOf format cause → IsRefusedFor v cause c → IsReady c
 refused_ready v format (causes.TooLarge size) c h e = subst IsReady (sym e) tt
@@ -210,40 +281,59 @@ refused_ready v format (causes.Hash rec) c h e = subst IsReady (sym e) (record_j
 refused_ready v format (causes.Ambiguous confusion) c h e = subst IsReady (sym e) (confused_ready v confusion (confused_records format confusion h))
 refused_ready v format causes.OutOfMemory c h e = absurd e
 
-asked_ready : (v : Verb) (source : Side) (c : Command) → IsAsked v source c → IsReady c
-asked_ready v source c (faulty p f e) = subst IsReady (sym e) (side_tells source p f)
-asked_ready v source c (plain format s t e) = subst IsReady (sym e) (plain_ready v format)
-asked_ready v source c (accepted format s t h e) = subst IsReady (sym e) (accepted_ready v format h)
-asked_ready v source c (refused format cause s t h e) = refused_ready v format cause c h e
+if_ready : (v : Verb) (format : Shape) (one c : Command) → (IsAccepted format → IsReady one) → IfAccepted v format one c → IsReady c
+if_ready v format one c ready (accepted h e) = subst IsReady (sym e) (ready h)
+if_ready v format one c ready (refused cause h e) = refused_ready v format cause c h e
+
+by_side_ready : (one : WhichSide) (side : Side) (Asks : Shape → Command → Type 0) (c : Command) → ((format : Shape) → Asks format c → IsReady c) → BySide one side Asks c → IsReady c
+by_side_ready one side Asks c each (faulty p f e) = subst IsReady (sym e) (side_tells one side p f)
+by_side_ready one side Asks c each (given format s h) = each format h
+
+asks_of_ready : (p : Purpose) (c : Command) (format : Shape) → AsksOf p format c → IsReady c
+asks_of_ready purposes.Check c format h = if_ready verbs.Check format (Readable (length (slots_in format.pieces))) c (λ a. tt) h
+asks_of_ready purposes.Read c format h = if_ready verbs.Read format (Lines (jobs.Read format)) c (λ a. a.readable) h
+asks_of_ready purposes.Write c format h = subst IsReady (sym h) tt
+asks_of_ready purposes.Show c format h = subst IsReady (sym h) tt
+asks_of_ready (purposes.Generate seed count) c format h = if_ready verbs.Gen format (Generate format seed count) c (λ a. tt) h
+
+to_map_ready : (plan : Plan) (c : Command) → AsksToMap plan c → IsReady c
+to_map_ready plan c (unmapped f p e) = subst IsReady (sym e) tt
+to_map_ready plan c (mapped es p h) = if_ready verbs.Translate plan.source (Lines (jobs.Translate plan)) c (λ a. a.readable) h
+
+to_translate_ready : (source to : Side) (map : List ℕ) (c : Command) → AsksToTranslate source to map c → IsReady c
+to_translate_ready source to map c h =
+    by_side_ready which.Source source (λ from. BySide which.Target to (λ goal. AsksToMap (record { source = from; target = goal; map = map }))) c (λ from h.
+    by_side_ready which.Target to (λ goal. AsksToMap (record { source = from; target = goal; map = map })) c (λ goal h. to_map_ready (record { source = from; target = goal; map = map }) c h) h) h
+
+source_ready : (p : Purpose) (source : Side) (c : Command) → BySide which.Source source (AsksOf p) c → IsReady c
+source_ready p source c h = by_side_ready which.Source source (AsksOf p) c (asks_of_ready p c) h
+
+asks_ready : (v : Verb) (line : CommandLine) (c : Command) → AsksBy v line c → IsReady c
+asks_ready verbs.Check line c h = source_ready purposes.Check line.source c h
+asks_ready verbs.Read line c h = source_ready purposes.Read line.source c h
+asks_ready verbs.Write line c h = source_ready purposes.Write line.source c h
+asks_ready verbs.Show line c h = source_ready purposes.Show line.source c h
+asks_ready verbs.Translate line c h = to_translate_ready line.source h.to h.by c h.asks
+asks_ready verbs.Gen line c h = source_ready (purposes.Generate line.seed line.count) line.source c h
 
 -- A command that words are can be done.
 pub command_ready : (words : List (List ℕ)) (c : Command) → IsCommand words c → IsReady c
 command_ready words c (inl bad) = subst IsReady (sym bad.1) tt
-command_ready words c (inr h) = elim (cases_Bool (is_built h.line.verb)) [
-  | inl t ↦ asked_ready h.line.verb h.line.source c (asks-built h.line c t h.asks)
-  | inr f ↦ subst IsReady (sym (asks-other h.line c f h.asks)) tt
-]
+command_ready words c (inr h) = asks_ready h.line.verb h.line c h.asks
 
--- Where lines are read by a format, it keeps what each slot of a format keeps, and its literals are bytes.
+-- The source of the plan keeps what a format keeps, and its text is a map.
+pub record CanTurn (plan : Plan) : Type 0 where
+  pub kept : IsKept plan.source
+  pub exprs : List Expr
+  pub maps : MapsBy plan exprs
+
+-- Where lines are read or records drawn by a format, it keeps what each slot of a format keeps, and its literals are
+-- bytes; and where lines are turned, the map's text is a map.
 abbrev pub KeepsBytes : Command → Type 0
 KeepsBytes (Lines (jobs.Read format)) = IsKept format
+KeepsBytes (Lines (jobs.Translate plan)) = CanTurn plan
+KeepsBytes (Generate format seed count) = IsKept format
 KeepsBytes command = Unit {0}
-
-plain_keeps : (v : Verb) (format : Shape) → KeepsBytes (plain_command v format)
-plain_keeps verbs.Check format = tt
-plain_keeps verbs.Read format = tt
-plain_keeps verbs.Write format = tt
-plain_keeps verbs.Translate format = tt
-plain_keeps verbs.Show format = tt
-plain_keeps verbs.Gen format = tt
-
-accepted_keeps : (v : Verb) (format : Shape) → IsKept format → KeepsBytes (accepted_command v format)
-accepted_keeps verbs.Check format kept = tt
-accepted_keeps verbs.Read format kept = kept
-accepted_keeps verbs.Write format kept = tt
-accepted_keeps verbs.Translate format kept = tt
-accepted_keeps verbs.Show format kept = tt
-accepted_keeps verbs.Gen format kept = tt
 
 confused_keeps : (v : Verb) (confusion : Confusion) → KeepsBytes (confused_command v confusion)
 confused_keeps verbs.Check confusion = tt
@@ -259,15 +349,44 @@ refused_keeps v (causes.Hash rec) c e = subst KeepsBytes (sym e) tt
 refused_keeps v (causes.Ambiguous confusion) c e = subst KeepsBytes (sym e) (confused_keeps v confusion)
 refused_keeps v causes.OutOfMemory c e = absurd e
 
-asked_keeps : (v : Verb) (source : Side) (c : Command) → SpelledKeeps → NarrowedKeeps → IsWord source.format → IsAsked v source c → KeepsBytes c
-asked_keeps v source c spelled narrowed word (faulty p f e) = subst KeepsBytes (sym e) tt
-asked_keeps v source c spelled narrowed word (plain format s t e) = subst KeepsBytes (sym e) (plain_keeps v format)
-asked_keeps v source c spelled narrowed word (accepted format s t h e) = subst KeepsBytes (sym e) (accepted_keeps v format (gives_kept source format spelled narrowed word s))
-asked_keeps v source c spelled narrowed word (refused format cause s t h e) = refused_keeps v cause c e
+if_keeps : (v : Verb) (format : Shape) (one c : Command) → KeepsBytes one → IfAccepted v format one c → KeepsBytes c
+if_keeps v format one c keeps (accepted h e) = subst KeepsBytes (sym e) keeps
+if_keeps v format one c keeps (refused cause h e) = refused_keeps v cause c e
+
+by_side_keeps : (one : WhichSide) (side : Side) (Asks : Shape → Command → Type 0) (c : Command) → ((format : Shape) → Gives side format → Asks format c → KeepsBytes c) → BySide one side Asks c → KeepsBytes c
+by_side_keeps one side Asks c each (faulty p f e) = subst KeepsBytes (sym e) tt
+by_side_keeps one side Asks c each (given format s h) = each format s h
+
+asks_of_keeps : (p : Purpose) (c : Command) (format : Shape) → IsKept format → AsksOf p format c → KeepsBytes c
+asks_of_keeps purposes.Check c format kept h = if_keeps verbs.Check format (Readable (length (slots_in format.pieces))) c tt h
+asks_of_keeps purposes.Read c format kept h = if_keeps verbs.Read format (Lines (jobs.Read format)) c kept h
+asks_of_keeps purposes.Write c format kept h = subst KeepsBytes (sym h) tt
+asks_of_keeps purposes.Show c format kept h = subst KeepsBytes (sym h) tt
+asks_of_keeps (purposes.Generate seed count) c format kept h = if_keeps verbs.Gen format (Generate format seed count) c kept h
+
+to_map_keeps : (plan : Plan) (c : Command) → IsKept plan.source → AsksToMap plan c → KeepsBytes c
+to_map_keeps plan c kept (unmapped f p e) = subst KeepsBytes (sym e) tt
+to_map_keeps plan c kept (mapped es p h) = if_keeps verbs.Translate plan.source (Lines (jobs.Translate plan)) c (record { kept = kept; exprs = es; maps = p }) h
+
+module _ (spelled : SpelledKeeps) (narrowed : NarrowedKeeps) where
+  source_keeps : (p : Purpose) (source : Side) (c : Command) → IsWord source.format → BySide which.Source source (AsksOf p) c → KeepsBytes c
+  source_keeps p source c word h =
+      by_side_keeps which.Source source (AsksOf p) c (λ format gives asks. asks_of_keeps p c format (gives_kept source format spelled narrowed word gives) asks) h
+
+  to_translate_keeps : (source to : Side) (map : List ℕ) (c : Command) → IsWord source.format → AsksToTranslate source to map c → KeepsBytes c
+  to_translate_keeps source to map c word h =
+      by_side_keeps which.Source source (λ from. BySide which.Target to (λ goal. AsksToMap (record { source = from; target = goal; map = map }))) c (λ from gives h.
+      by_side_keeps which.Target to (λ goal. AsksToMap (record { source = from; target = goal; map = map })) c (λ goal other h.
+      to_map_keeps (record { source = from; target = goal; map = map }) c (gives_kept source from spelled narrowed word gives) h) h) h
+
+  asks_keep : (v : Verb) (line : CommandLine) (c : Command) → IsWord line.source.format → AsksBy v line c → KeepsBytes c
+  asks_keep verbs.Check line c word h = source_keeps purposes.Check line.source c word h
+  asks_keep verbs.Read line c word h = source_keeps purposes.Read line.source c word h
+  asks_keep verbs.Write line c word h = source_keeps purposes.Write line.source c word h
+  asks_keep verbs.Show line c word h = source_keeps purposes.Show line.source c word h
+  asks_keep verbs.Translate line c word h = to_translate_keeps line.source h.to h.by c word h.asks
+  asks_keep verbs.Gen line c word h = source_keeps (purposes.Generate line.seed line.count) line.source c word h
 
 pub command_keeps : (words : List (List ℕ)) (c : Command) → FormatsAreWords → SpelledKeeps → NarrowedKeeps → IsCommand words c → KeepsBytes c
 command_keeps words c formats spelled narrowed (inl bad) = subst KeepsBytes (sym bad.1) tt
-command_keeps words c formats spelled narrowed (inr h) = elim (cases_Bool (is_built h.line.verb)) [
-  | inl t ↦ asked_keeps h.line.verb h.line.source c spelled narrowed (formats words h.line h.is) (asks-built h.line c t h.asks)
-  | inr f ↦ subst KeepsBytes (sym (asks-other h.line c f h.asks)) tt
-]
+command_keeps words c formats spelled narrowed (inr h) = asks_keep spelled narrowed h.line.verb h.line c (formats words h.line h.is) h.asks

@@ -5,5 +5,7 @@ pub mod Steps
 pub mod RunLaws
 pub mod SideLaws
 pub mod CommandLaws
+pub mod Drawing
 pub mod Deciding
 pub mod Texts
+pub mod Asking

@@ -345,7 +345,7 @@ part_nothing : (text : List ℕ) (appended : List ℕ → Type 0) → appended [
 part_nothing text appended none = ([], (text, refl), none)
 
 -- There was no memory for a text, and nothing was written.
-runs_untold : (c : Command) (left : Option (List ℕ)) (out err : List ℕ → Type 0) → out [] → err [] → Runs c 6 left left out err
+pub runs_untold : (c : Command) (left : Option (List ℕ)) (out err : List ℕ → Type 0) → out [] → err [] → Runs c 6 left left out err
 runs_untold c left out err no_out no_err = record {
   settled = settled_never c 6 left left out err (λ final. omega (arith, final));
   reads = λ broken. absurd (omega (arith, broken));
@@ -374,9 +374,9 @@ told_shown format = record { has = λ input. refl; only = λ input other h. h; t
 
 pub good_status : (refusal : Refusal) → (refusal_status refusal ≤ 3) ⊎ (refusal_status refusal ≡ 7)
 good_status refusals.BadWords = inl (omega arith)
-good_status (refusals.BadFormat place cause) = inl (omega arith)
-good_status (refusals.BadNarrowing fault) = inl (omega arith)
-good_status refusals.NotBuilt = inl (omega arith)
+good_status (refusals.BadFormat which place cause) = inl (omega arith)
+good_status (refusals.BadNarrowing which fault) = inl (omega arith)
+good_status (refusals.BadMap fault) = inl (omega arith)
 good_status (refusals.TooLarge size) = inr refl
 good_status (refusals.NoteLine rec) = inl (omega arith)
 good_status (refusals.Confused confusion) = inl (omega arith)

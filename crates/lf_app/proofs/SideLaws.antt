@@ -24,6 +24,7 @@ use Rattle.lf_words.specs.declared.command.Front.{Front}
 use Rattle.lf_words.specs.declared.command.Side.{Side}
 use Rattle.lf_words.specs.Command.{IsWord}
 use Rattle.lf_app.specs.declared.commands.Refusal.{Refusal}
+use Rattle.lf_app.specs.declared.commands.WhichSide.{WhichSide}
 use Rattle.lf_app.specs.declared.commands.Refusal.TheVariants.{BadFormat, BadNarrowing}
 use Rattle.lf_app.specs.declared.sides.SideFault.{SideFault}
 use Rattle.lf_app.specs.declared.sides.SideFault.TheVariants as side_faults
@@ -37,11 +38,11 @@ abbrev pub NarrowsOne : Type 0
 NarrowsOne = (format : Shape) (text : List ℕ) → HasOneNarrowing format text
 
 -- Each side gives one format, or it is refused for one thing.
-pub record HasOneSide (side : Side) : Type 0 where
-  pub some : ((format : Shape) × Gives side format) ⊎ ((refusal : Refusal) × IsFaultySide side refusal)
+pub record HasOneSide (which : WhichSide) (side : Side) : Type 0 where
+  pub some : ((format : Shape) × Gives side format) ⊎ ((refusal : Refusal) × IsFaultySide which side refusal)
   pub one_format : (a b : Shape) → Gives side a → Gives side b → a ≡ b
-  pub one_refusal : (a b : Refusal) → IsFaultySide side a → IsFaultySide side b → a ≡ b
-  pub not_both : (format : Shape) (refusal : Refusal) → Gives side format → IsFaultySide side refusal → ⊥
+  pub one_refusal : (a b : Refusal) → IsFaultySide which side a → IsFaultySide which side b → a ≡ b
+  pub not_both : (format : Shape) (refusal : Refusal) → Gives side format → IsFaultySide which side refusal → ⊥
 
 module _ (narrowings : NarrowsOne) (spelled : Shape) where
   left_one : (narrow : Option (List ℕ)) (a b : Shape) → Leaves narrow spelled a → Leaves narrow spelled b → a ≡ b
@@ -60,7 +61,7 @@ module _ (narrowings : NarrowsOne) (spelled : Shape) where
   some_left None = inl (spelled, refl)
   some_left (Some text) = (narrowings spelled text).some
 
-module _ (fronts : SpellsOne) (narrowings : NarrowsOne) (side : Side) where
+module _ (fronts : SpellsOne) (narrowings : NarrowsOne) (which : WhichSide) (side : Side) where
   same_spelled : (a b : Shape) → Spells side.front side.format a → Spells side.front side.format b → a ≡ b
   same_spelled a b p q = (fronts side.front side.format).one_format a b p q
 
@@ -69,52 +70,52 @@ module _ (fronts : SpellsOne) (narrowings : NarrowsOne) (side : Side) where
       let same = same_spelled p.spelled q.spelled p.spells q.spells in
       left_one narrowings q.spelled side.narrow a b (subst (λ (x : Shape). Leaves side.narrow x a) same p.left) q.left
 
-  refusal_one : (a b : Refusal) → IsFaultySide side a → IsFaultySide side b → a ≡ b
+  refusal_one : (a b : Refusal) → IsFaultySide which side a → IsFaultySide which side b → a ≡ b
   refusal_one a b (misspelled p x f e) (misspelled q y g d) =
       let same = (fronts side.front side.format).one_fault p q x y f g in
-      e ∙ ap (λ (n : ℕ). BadFormat n x) same.0 ∙ ap (λ (z : Cause). BadFormat q z) same.1 ∙ sym d
+      e ∙ ap (λ (n : ℕ). BadFormat which n x) same.0 ∙ ap (λ (z : Cause). BadFormat which q z) same.1 ∙ sym d
   refusal_one a b (misspelled p x f e) (misnarrowed s n h g d) = absurd ((fronts side.front side.format).not_both s p x h f)
   refusal_one a b (misnarrowed s n h g d) (misspelled p x f e) = absurd ((fronts side.front side.format).not_both s p x h f)
   refusal_one a b (misnarrowed s n h g d) (misnarrowed t m k i e) =
       let same = same_spelled s t h k in
       let one = fault_one narrowings t side.narrow n m (subst (λ (x : Shape). HasFault side.narrow x n) same g) i in
-      d ∙ ap (λ (f : NarrowFault). BadNarrowing f) one ∙ sym e
+      d ∙ ap (λ (f : NarrowFault). BadNarrowing which f) one ∙ sym e
 
-  not_refused : (format : Shape) (refusal : Refusal) → Gives side format → IsFaultySide side refusal → ⊥
+  not_refused : (format : Shape) (refusal : Refusal) → Gives side format → IsFaultySide which side refusal → ⊥
   not_refused format refusal g (misspelled p x f e) = (fronts side.front side.format).not_both g.spelled p x g.spells f
   not_refused format refusal g (misnarrowed s n h i e) =
       let same = same_spelled s g.spelled h g.spells in
       left_or_fault narrowings g.spelled side.narrow format n g.left (subst (λ (x : Shape). HasFault side.narrow x n) same i)
 
-  some_side : ((format : Shape) × Gives side format) ⊎ ((refusal : Refusal) × IsFaultySide side refusal)
+  some_side : ((format : Shape) × Gives side format) ⊎ ((refusal : Refusal) × IsFaultySide which side refusal)
   some_side = elim (fronts side.front side.format).some [
-    | inr fault ↦ inr (BadFormat fault.0 fault.1, misspelled fault.0 fault.1 fault.2 refl)
+    | inr fault ↦ inr (BadFormat which fault.0 fault.1, misspelled fault.0 fault.1 fault.2 refl)
     | inl spelled ↦ elim (some_left narrowings spelled.0 side.narrow) [
       | inl left ↦ inl (left.0, record { spelled = spelled.0; spells = spelled.1; left = left.1 })
-      | inr fault ↦ inr (BadNarrowing fault.0, misnarrowed spelled.0 fault.0 spelled.1 fault.1 refl)
+      | inr fault ↦ inr (BadNarrowing which fault.0, misnarrowed spelled.0 fault.0 spelled.1 fault.1 refl)
     ]
   ]
 
-  pub one_side : HasOneSide side
+  pub one_side : HasOneSide which side
   one_side = record { some = some_side; one_format = gives_one; one_refusal = refusal_one; not_both = not_refused }
 
 -- What a side is refused for can be told.
-pub side_tells : (side : Side) (refusal : Refusal) → IsFaultySide side refusal → CanTell refusal
-side_tells side refusal (misspelled p x f e) = subst CanTell (sym e) tt
-side_tells side refusal (misnarrowed s n h g e) = subst CanTell (sym e) tt
+pub side_tells : (which : WhichSide) (side : Side) (refusal : Refusal) → IsFaultySide which side refusal → CanTell refusal
+side_tells which side refusal (misspelled p x f e) = subst CanTell (sym e) tt
+side_tells which side refusal (misnarrowed s n h g e) = subst CanTell (sym e) tt
 
 -- A narrowing's fault is told as that of the narrowing that is given.
-pub narrowing_fault : (narrow : Option (List ℕ)) (spelled : Shape) (text : List ℕ) (f : NarrowFault) → narrow ≡ Some text → IsSo (IsFaultyNarrowing spelled text) f → IsNarrowingFault narrow spelled (side_fault_of f)
-narrowing_fault narrow spelled text (fault.Syntax n) e h = (fault.Syntax n, subst (λ (o : Option (List ℕ)). HasFault o spelled (fault.Syntax n)) (sym e) h, refl)
-narrowing_fault narrow spelled text (fault.NoSlot n) e h = (fault.NoSlot n, subst (λ (o : Option (List ℕ)). HasFault o spelled (fault.NoSlot n)) (sym e) h, refl)
-narrowing_fault narrow spelled text (fault.WrongKind n) e h = (fault.WrongKind n, subst (λ (o : Option (List ℕ)). HasFault o spelled (fault.WrongKind n)) (sym e) h, refl)
-narrowing_fault narrow spelled text (fault.Empty n) e h = (fault.Empty n, subst (λ (o : Option (List ℕ)). HasFault o spelled (fault.Empty n)) (sym e) h, refl)
-narrowing_fault narrow spelled text fault.OutOfMemory e h = tt
+pub narrowing_fault : (which : WhichSide) (narrow : Option (List ℕ)) (spelled : Shape) (text : List ℕ) (f : NarrowFault) → narrow ≡ Some text → IsSo (IsFaultyNarrowing spelled text) f → IsNarrowingFault which narrow spelled (side_fault_of which f)
+narrowing_fault which narrow spelled text (fault.Syntax n) e h = (fault.Syntax n, subst (λ (o : Option (List ℕ)). HasFault o spelled (fault.Syntax n)) (sym e) h, refl)
+narrowing_fault which narrow spelled text (fault.NoSlot n) e h = (fault.NoSlot n, subst (λ (o : Option (List ℕ)). HasFault o spelled (fault.NoSlot n)) (sym e) h, refl)
+narrowing_fault which narrow spelled text (fault.WrongKind n) e h = (fault.WrongKind n, subst (λ (o : Option (List ℕ)). HasFault o spelled (fault.WrongKind n)) (sym e) h, refl)
+narrowing_fault which narrow spelled text (fault.Empty n) e h = (fault.Empty n, subst (λ (o : Option (List ℕ)). HasFault o spelled (fault.Empty n)) (sym e) h, refl)
+narrowing_fault which narrow spelled text fault.OutOfMemory e h = tt
 
 -- And it is the side's.
-pub side_fault : (side : Side) (spelled : Shape) (f : SideFault) → Spells side.front side.format spelled → IsNarrowingFault side.narrow spelled f → IsSideFault side f
-side_fault side spelled (side_faults.Refused refusal) s h = misnarrowed spelled h.0 s h.1 h.2
-side_fault side spelled side_faults.OutOfMemory s h = tt
+pub side_fault : (which : WhichSide) (side : Side) (spelled : Shape) (f : SideFault) → Spells side.front side.format spelled → IsNarrowingFault which side.narrow spelled f → IsSideFault which side f
+side_fault which side spelled (side_faults.Refused refusal) s h = misnarrowed spelled h.0 s h.1 h.2
+side_fault which side spelled side_faults.OutOfMemory s h = tt
 
 -- ---- what a side gives
 

@@ -1,5 +1,5 @@
 -- The verdicts of lines, and the texts of what was found.
-use Rattle.std.proofs.Common.{◌≡◌, ℕ, suc, ◌+◌, Bool, true, false, ◌||◌, List, [], ◌∷◌, ◌++◌, length, refl, sym, ap, arith, append_assoc, add-zero}
+use Rattle.std.proofs.Common.{◌≡◌, ℕ, suc, ◌+◌, Bool, true, false, ◌||◌, List, [], ◌∷◌, ◌++◌, length, refl, sym, ap, arith, append_assoc, add-zero, subst, ◌∙◌}
 use Rattle.std.proofs.lemmas.List.{append-nil}
 use Rattle.std.proofs.lemmas.List.Concat.{flat_map-append}
 use Rattle.lf_stream.specs.Sorts.{sort_of}
@@ -9,9 +9,21 @@ use Rattle.lf_app.specs.declared.commands.Job.{Job}
 use Rattle.lf_app.specs.declared.verdict.Verdict.{Verdict}
 use Rattle.lf_app.specs.declared.verdict.Verdict.TheVariants.{Note, Long, Found}
 use Rattle.lf_app.specs.declared.verdict.Finding.{Finding}
-use Rattle.lf_app.specs.declared.verdict.Finding.TheVariants.{Read, Unread, Given, Bad}
+use Rattle.lf_app.specs.declared.verdict.Finding.TheVariants.{Read, Unread, Given, Bad, Turned, Unmapped}
 use Rattle.lf_app.specs.declared.commands.Job.TheVariants as jobs
 use Rattle.std.specs.Prelude.{Ok, Err}
+use Rattle.lf_core.specs.declared.values.Value.{Value}
+use Rattle.lf_format.specs.Keeps.{slots_in}
+use Rattle.lf_format.specs.Lines.{IsReadable, line_text}
+use Rattle.lf_expression.specs.Exprs.{Expr}
+use Rattle.lf_map.specs.Filling.{Answer, blank}
+use Rattle.lf_map.specs.Letters.{parts_of}
+use Rattle.lf_map.specs.Mapped.{Makes}
+use Rattle.lf_map.specs.declared.mapping.Mapped.{Mapped}
+use Rattle.lf_map.specs.declared.mapping.Mapped.TheVariants as mapped
+use Rattle.lf_map.proofs.Answered.{answer_one}
+use Rattle.lf_map.proofs.Records.{mapped_one}
+use Rattle.lf_translate.specs.Translations.{Plan, MapsBy, TurnsTo}
 use Rattle.lf_json.proofs.OneReading.{one_reading}
 use Rattle.lf_app.specs.declared.report.Report.{Report}
 use Rattle.lf_app.specs.Progress.{CanWork, Reports}
@@ -28,6 +40,30 @@ note_or_line s p q = cc
 long_or_line : (s : Sort) → s ≡ sort.Long → s ≡ sort.Line → ⊥
 long_or_line s p q = cc
 
+same_exprs : (a b : List Expr) → ◌≡◌ {A = Answer} (Ok a) (Ok b) → a ≡ b
+same_exprs a b e = cc
+
+maps_one : (plan : Plan) (a b : List Expr) → MapsBy plan a → MapsBy plan b → a ≡ b
+maps_one plan a b p q =
+    same_exprs a b (answer_one (slots_in plan.source.pieces) (slots_in plan.target.pieces) plan.map (parts_of plan.map) (blank (length (slots_in plan.target.pieces))) (Ok a) (Ok b) p q)
+
+-- A line of a readable source is turned to one thing.
+turned_one : (plan : Plan) (line : List ℕ) (a b : Mapped) → IsReadable plan.source.pieces → TurnsTo plan line a → TurnsTo plan line b → a ≡ b
+turned_one plan line a b can p q =
+    let read : p.read ≡ q.read = same_record p.read q.read (λ differ. can p.read q.read line (record { left = p.prints; right = q.prints; differ = differ })) in
+    let exprs = maps_one plan p.exprs q.exprs p.maps q.maps in
+    let makes = subst (λ (e : List Expr). Makes plan.target.pieces e q.read a) exprs (subst (λ (r : List Value). Makes plan.target.pieces p.exprs r a) read p.makes) in
+    mapped_one plan.target.pieces q.exprs q.read a b makes q.makes
+
+same_made : (a b : List Value) → ◌≡◌ {A = Mapped} (mapped.Rec a) (mapped.Rec b) → a ≡ b
+same_made a b e = cc
+
+same_slot : (a b : ℕ) → ◌≡◌ {A = Mapped} (mapped.Unmapped a) (mapped.Unmapped b) → a ≡ b
+same_slot a b e = cc
+
+made_or_not : (a : List Value) (k : ℕ) → ◌≡◌ {A = Mapped} (mapped.Rec a) (mapped.Unmapped k) → ⊥
+made_or_not a k e = cc
+
 -- What is found of a line is one thing.
 one_finding : (job : Job) (line : List ℕ) (f g : Finding) → CanWork job → IsFound job line f → IsFound job line g → f ≡ g
 one_finding (jobs.Read format) line (Read r) (Read s) can p q = ap Read (same_record r s (λ differ. can r s line (record { left = p; right = q; differ = differ })))
@@ -38,6 +74,10 @@ one_finding (jobs.Read format) line (Given r) g can p q = absurd p
 one_finding (jobs.Read format) line (Bad bad) g can p q = absurd p
 one_finding (jobs.Read format) line f (Given s) can p q = absurd q
 one_finding (jobs.Read format) line f (Bad bad) can p q = absurd q
+one_finding (jobs.Read format) line (Turned text) g can p q = absurd p
+one_finding (jobs.Read format) line (Unmapped k) g can p q = absurd p
+one_finding (jobs.Read format) line f (Turned text) can p q = absurd q
+one_finding (jobs.Read format) line f (Unmapped k) can p q = absurd q
 one_finding (jobs.Write format) line (Given r) (Given s) can p q = let same = one_reading format.pieces line (Ok r) (Ok s) p q in cc
 one_finding (jobs.Write format) line (Given r) (Bad bad) can p q = let same = one_reading format.pieces line (Ok r) (Err bad) p q in cc
 one_finding (jobs.Write format) line (Bad bad) (Given s) can p q = let same = one_reading format.pieces line (Err bad) (Ok s) p q in cc
@@ -46,6 +86,30 @@ one_finding (jobs.Write format) line (Read r) g can p q = absurd p
 one_finding (jobs.Write format) line Unread g can p q = absurd p
 one_finding (jobs.Write format) line f (Read s) can p q = absurd q
 one_finding (jobs.Write format) line f Unread can p q = absurd q
+one_finding (jobs.Write format) line (Turned text) g can p q = absurd p
+one_finding (jobs.Write format) line (Unmapped k) g can p q = absurd p
+one_finding (jobs.Write format) line f (Turned text) can p q = absurd q
+one_finding (jobs.Write format) line f (Unmapped k) can p q = absurd q
+one_finding (jobs.Translate plan) line (Turned a) (Turned b) can p q =
+    let made = same_made p.0 q.0 (turned_one plan line (mapped.Rec p.0) (mapped.Rec q.0) can p.1 q.1) in
+    ap Turned (p.2 ∙ ap (λ (r : List Value). line_text plan.target.pieces r) made ∙ sym q.2)
+one_finding (jobs.Translate plan) line (Turned a) (Unmapped k) can p q =
+    absurd (made_or_not p.0 k (turned_one plan line (mapped.Rec p.0) (mapped.Unmapped k) can p.1 q))
+one_finding (jobs.Translate plan) line (Unmapped k) (Turned b) can p q =
+    absurd (made_or_not q.0 k (turned_one plan line (mapped.Rec q.0) (mapped.Unmapped k) can q.1 p))
+one_finding (jobs.Translate plan) line (Unmapped k) (Unmapped n) can p q =
+    ap Unmapped (same_slot k n (turned_one plan line (mapped.Unmapped k) (mapped.Unmapped n) can p q))
+one_finding (jobs.Translate plan) line (Turned a) Unread can p q = absurd (q p.1.read p.1.prints)
+one_finding (jobs.Translate plan) line (Unmapped k) Unread can p q = absurd (q p.read p.prints)
+one_finding (jobs.Translate plan) line Unread (Turned b) can p q = absurd (p q.1.read q.1.prints)
+one_finding (jobs.Translate plan) line Unread (Unmapped k) can p q = absurd (p q.read q.prints)
+one_finding (jobs.Translate plan) line Unread Unread can p q = refl
+one_finding (jobs.Translate plan) line (Read r) g can p q = absurd p
+one_finding (jobs.Translate plan) line (Given r) g can p q = absurd p
+one_finding (jobs.Translate plan) line (Bad bad) g can p q = absurd p
+one_finding (jobs.Translate plan) line f (Read s) can p q = absurd q
+one_finding (jobs.Translate plan) line f (Given s) can p q = absurd q
+one_finding (jobs.Translate plan) line f (Bad bad) can p q = absurd q
 
 -- A line has one verdict.
 pub one_verdict : (job : Job) (line : List ℕ) (v w : Verdict) → CanWork job → IsVerdict job line v → IsVerdict job line w → v ≡ w

@@ -1,67 +1,40 @@
 -- What a command line asks for.
-use Rattle.std.specs.Prelude.{◌≡◌, ℕ, ◌⊎◌, Bool, true, false, cond, List, length}
+use Rattle.std.specs.Prelude.{◌≡◌, ℕ, ◌⊎◌, List, length, Some, Err}
 use Rattle.lf_compile.specs.Accepted.{IsAccepted, IsCauseOf}
 use Rattle.lf_compile.specs.declared.refused.Confusion.{Confusion}
 use Rattle.lf_compile.specs.declared.refused.Refused.{Refused}
 use Rattle.lf_compile.specs.declared.refused.Refused.TheVariants.{TooLarge, Hash, Ambiguous, OutOfMemory}
 use Rattle.lf_format.specs.Keeps.{slots_in}
 use Rattle.lf_format.specs.Shape.{Shape}
-use Rattle.lf_words.specs.Command.{IsCommand as IsLine, IsBad}
+use Rattle.lf_expression.specs.Exprs.{Expr}
+use Rattle.lf_map.specs.Filling.{ParsesMap}
+use Rattle.lf_map.specs.declared.fault.MapFault.{MapFault}
+use Rattle.lf_map.specs.declared.fault.MapFault.TheVariants as map_fault
+use Rattle.lf_words.specs.Command.{IsCommand as IsLine, IsBad, HasTarget}
 use Rattle.lf_words.specs.declared.command.Command.{Command as CommandLine}
 use Rattle.lf_words.specs.declared.command.Side.{Side}
 use Rattle.lf_words.specs.declared.command.Verb.{Verb}
 use Rattle.lf_words.specs.declared.command.Verb.TheVariants as verbs
 use Rattle.lf_app.specs.declared.commands.Command.{Command}
-use Rattle.lf_app.specs.declared.commands.Command.TheVariants.{Lines, Readable, Witness, Show, Refuse}
-use Rattle.lf_app.specs.declared.commands.Job.TheVariants.{Read, Write}
+use Rattle.lf_app.specs.declared.commands.Command.TheVariants.{Lines, Readable, Witness, Show, Generate, Refuse}
+use Rattle.lf_app.specs.declared.commands.Job.TheVariants.{Read, Write, Translate}
+use Rattle.lf_app.specs.declared.commands.Purpose.{Purpose}
+use Rattle.lf_app.specs.declared.commands.Purpose.TheVariants as purposes
 use Rattle.lf_app.specs.declared.commands.Refusal.{Refusal}
 use Rattle.lf_app.specs.declared.commands.Refusal.TheVariants as refusals
-use Rattle.lf_app.specs.Sides.{Gives, IsFaultySide}
+use Rattle.lf_app.specs.declared.commands.WhichSide.{WhichSide}
+use Rattle.lf_app.specs.declared.commands.WhichSide.TheVariants.{Source, Target}
+use Rattle.lf_app.specs.Sides.{Gives, IsShort, IsFaultySide}
+use Rattle.lf_translate.specs.Translations.{Plan, MapsBy}
 
--- whether the verb is one that is built
-abbrev pub is_built : Verb → Bool
-is_built verbs.Check = true
-is_built verbs.Read = true
-is_built verbs.Write = true
-is_built verbs.Show = true
-is_built verbs.Translate = false
-is_built verbs.Gen = false
-
--- whether the verb asks first whether the format is readable
-abbrev pub is_compiling : Verb → Bool
-is_compiling verbs.Check = true
-is_compiling verbs.Read = true
-is_compiling verbs.Write = false
-is_compiling verbs.Show = false
-is_compiling verbs.Translate = false
-is_compiling verbs.Gen = false
-
--- what a verb that doesn't ask so asks for by a format, readable or not
-abbrev pub plain_command : Verb → Shape → Command
-plain_command verbs.Check format = Refuse refusals.NotBuilt
-plain_command verbs.Read format = Refuse refusals.NotBuilt
-plain_command verbs.Write format = Lines (Write format)
-plain_command verbs.Show format = Show format
-plain_command verbs.Translate format = Refuse refusals.NotBuilt
-plain_command verbs.Gen format = Refuse refusals.NotBuilt
-
--- what a verb that asks so asks for by a format that isn't readable: `check` tells it, and the others are refused
+-- what a verb asks for by a format that isn't readable: `check` tells it, and the others are refused
 abbrev pub confused_command : Verb → Confusion → Command
 confused_command verbs.Check confusion = Witness confusion
 confused_command verbs.Read confusion = Refuse (refusals.Confused confusion)
-confused_command verbs.Write confusion = Refuse refusals.NotBuilt
-confused_command verbs.Show confusion = Refuse refusals.NotBuilt
-confused_command verbs.Translate confusion = Refuse refusals.NotBuilt
-confused_command verbs.Gen confusion = Refuse refusals.NotBuilt
-
--- what a verb that asks so asks for by a format that is accepted
-abbrev pub accepted_command : Verb → Shape → Command
-accepted_command verbs.Check format = Readable (length (slots_in format.pieces))
-accepted_command verbs.Read format = Lines (Read format)
-accepted_command verbs.Write format = Refuse refusals.NotBuilt
-accepted_command verbs.Show format = Refuse refusals.NotBuilt
-accepted_command verbs.Translate format = Refuse refusals.NotBuilt
-accepted_command verbs.Gen format = Refuse refusals.NotBuilt
+confused_command verbs.Write confusion = Refuse (refusals.Confused confusion)
+confused_command verbs.Translate confusion = Refuse (refusals.Confused confusion)
+confused_command verbs.Show confusion = Refuse (refusals.Confused confusion)
+confused_command verbs.Gen confusion = Refuse (refusals.Confused confusion)
 
 -- The verb asks for this by a format that is refused for this cause.
 abbrev pub IsRefusedFor : Verb → Refused → Command → Type 0
@@ -70,17 +43,65 @@ IsRefusedFor verb (Hash rec) command = command ≡ Refuse (refusals.NoteLine rec
 IsRefusedFor verb (Ambiguous confusion) command = command ≡ confused_command verb confusion
 IsRefusedFor verb OutOfMemory command = ⊥
 
--- A verb that is built asks for this of a side: the side is refused; or the verb asks for no more than the format that the
--- side gives; or it asks first whether the format is accepted, and it is, or is refused.
-pub data IsAsked (verb : Verb) (source : Side) (command : Command) : Type 0 where
-  faulty : (refusal : Refusal) → IsFaultySide source refusal → command ≡ Refuse refusal → IsAsked verb source command
-  plain : (format : Shape) → Gives source format → is_compiling verb ≡ false → command ≡ plain_command verb format → IsAsked verb source command
-  accepted : (format : Shape) → Gives source format → is_compiling verb ≡ true → IsAccepted format → command ≡ accepted_command verb format → IsAsked verb source command
-  refused : (format : Shape) (cause : Refused) → Gives source format → is_compiling verb ≡ true → IsCauseOf format cause → IsRefusedFor verb cause command → IsAsked verb source command
+-- A verb that asks first whether a format is accepted asks for this: for the one thing where it is, and else the format is refused.
+pub data IfAccepted (verb : Verb) (format : Shape) (one command : Command) : Type 0 where
+  accepted : IsAccepted format → command ≡ one → IfAccepted verb format one command
+  refused : (cause : Refused) → IsCauseOf format cause → IsRefusedFor verb cause command → IfAccepted verb format one command
 
--- A command line asks for this: what its verb asks for where it is built.
+-- A side gives a format, and by it this is asked for; or the side is refused.
+pub data BySide (which : WhichSide) (side : Side) (Asks : Shape → Command → Type 0) (command : Command) : Type 0 where
+  faulty : (refusal : Refusal) → IsFaultySide which side refusal → command ≡ Refuse refusal → BySide which side Asks command
+  given : (format : Shape) → Gives side format → Asks format command → BySide which side Asks command
+
+-- For this purpose this is asked for by a format. `write` and `show` take each format, readable or not.
+abbrev pub AsksOf : Purpose → Shape → Command → Type 0
+AsksOf purposes.Check format command = IfAccepted verbs.Check format (Readable (length (slots_in format.pieces))) command
+AsksOf purposes.Read format command = IfAccepted verbs.Read format (Lines (Read format)) command
+AsksOf purposes.Write format command = command ≡ Lines (Write format)
+AsksOf purposes.Show format command = command ≡ Show format
+AsksOf (purposes.Generate seed count) format command = IfAccepted verbs.Gen format (Generate format seed count) command
+
+-- The map is refused for the fault.
+abbrev pub IsMapRefused : MapFault → Command → Type 0
+IsMapRefused map_fault.OutOfMemory command = ⊥
+IsMapRefused why command = command ≡ Refuse (refusals.BadMap why)
+
+-- A translation asks for this by its formats and the text of its map: the text has a fault, or it is a map, and then the
+-- source is asked whether it is accepted.
+pub data AsksToMap (plan : Plan) (command : Command) : Type 0 where
+  unmapped : (fault : MapFault) → ParsesMap plan.map plan.source plan.target (Err fault) → command ≡ Refuse (refusals.BadMap fault) → AsksToMap plan command
+  mapped : (exprs : List Expr) → MapsBy plan exprs → IfAccepted verbs.Translate plan.source (Lines (Translate plan)) command → AsksToMap plan command
+
+-- A translation asks for this: first the source is looked at, then the target, then the map.
+abbrev pub AsksToTranslate : Side → Side → List ℕ → Command → Type 0
+AsksToTranslate source target map command =
+    BySide Source source (λ from. BySide Target target (λ to. AsksToMap (record { source = from; target = to; map = map }))) command
+
+-- The command line has a target and a map, and by them this is asked for.
+pub record IsTranslation (line : CommandLine) (command : Command) : Type 0 where
+  pub to : Side
+  pub by : List ℕ
+  pub target : line.target ≡ Some to
+  pub map : line.map ≡ Some by
+  pub asks : AsksToTranslate line.source to by command
+
+-- A command line of the verb asks for this.
+abbrev pub AsksBy : Verb → CommandLine → Command → Type 0
+AsksBy verbs.Check line command = BySide Source line.source (AsksOf purposes.Check) command
+AsksBy verbs.Read line command = BySide Source line.source (AsksOf purposes.Read) command
+AsksBy verbs.Write line command = BySide Source line.source (AsksOf purposes.Write) command
+AsksBy verbs.Show line command = BySide Source line.source (AsksOf purposes.Show) command
+AsksBy verbs.Translate line command = IsTranslation line command
+AsksBy verbs.Gen line command = BySide Source line.source (AsksOf (purposes.Generate line.seed line.count)) command
+
+-- A command line asks for this.
 abbrev pub AsksFor : CommandLine → Command → Type 0
-AsksFor line command = cond (is_built line.verb) (IsAsked line.verb line.source command) (command ≡ Refuse refusals.NotBuilt)
+AsksFor line command = AsksBy line.verb line command
+
+-- The texts of the command line are words, and a translation has a target and a map.
+pub record CanAsk (line : CommandLine) : Type 0 where
+  pub source : IsShort line.source
+  pub target : line.verb ≡ verbs.Translate → HasTarget line
 
 -- The words are a command line, and it asks for this.
 pub record IsLineFor (words : List (List ℕ)) (command : Command) : Type 0 where
@@ -98,6 +119,7 @@ TakesInput (Lines job) = Unit {0}
 TakesInput (Readable slots) = ⊥
 TakesInput (Witness confusion) = ⊥
 TakesInput (Show format) = ⊥
+TakesInput (Generate format seed count) = ⊥
 TakesInput (Refuse refusal) = ⊥
 
 -- The words are one command and no other.

@@ -5,6 +5,8 @@ use Rattle.lf_limits.specs.Limits.{most_size}
 use Rattle.lf_format.specs.Keeps.{slots_in}
 use Rattle.lf_format.specs.Kinds.{value_kind}
 use Rattle.lf_format.specs.Shape.{Shape}
+use Rattle.lf_map.specs.declared.fault.MapFault.{MapFault}
+use Rattle.lf_map.specs.declared.fault.MapFault.TheVariants as map_fault
 use Rattle.lf_narrow.specs.declared.fault.NarrowFault.{NarrowFault}
 use Rattle.lf_narrow.specs.declared.fault.NarrowFault.TheVariants as fault
 use Rattle.lf_spelling.specs.declared.fault.Cause.{Cause}
@@ -16,14 +18,17 @@ use Rattle.lf_format.specs.declared.slot.Absent.TheVariants as absent
 use Rattle.lf_format.specs.declared.slot.Slot.{Slot}
 use Rattle.lf_app.specs.Statuses as statuses
 use Rattle.lf_app.specs.declared.commands.Command.{Command}
-use Rattle.lf_app.specs.declared.commands.Command.TheVariants.{Lines, Readable, Witness, Show, Refuse}
+use Rattle.lf_app.specs.declared.commands.Command.TheVariants.{Lines, Readable, Witness, Show, Generate, Refuse}
 use Rattle.lf_app.specs.declared.commands.Job.{Job}
 use Rattle.lf_app.specs.declared.commands.Refusal.{Refusal}
-use Rattle.lf_app.specs.declared.commands.Refusal.TheVariants.{BadWords, BadFormat, BadNarrowing, NotBuilt, TooLarge, NoteLine, Confused}
+use Rattle.lf_app.specs.declared.commands.Refusal.TheVariants.{BadWords, BadFormat, BadNarrowing, BadMap, TooLarge, NoteLine, Confused}
+use Rattle.lf_app.specs.declared.commands.WhichSide.{WhichSide}
+use Rattle.lf_app.specs.declared.commands.WhichSide.TheVariants.{Source, Target}
 use Rattle.lf_compile.specs.declared.refused.Confusion.{Confusion}
 use Rattle.lf_json.specs.Text.{json_text, text_json}
 use Rattle.lf_stream.specs.Cut.{lines_of}
 use Rattle.lf_app.specs.declared.verdict.Verdict.{Verdict}
+use Rattle.lf_log.specs.Generated.{IsSummary}
 use Rattle.lf_app.specs.Verdicts.{AreVerdicts, has_notes, out_text, err_text, any_listed}
 
 -- a status, and what `out` and `err` get
@@ -51,6 +56,20 @@ fault_text (fault.WrongKind k) = codes "WrongKind s" ++ decimal k
 fault_text (fault.Empty k) = codes "Empty s" ++ decimal k
 fault_text fault.OutOfMemory = []
 
+-- what is said of a map's fault
+abbrev pub map_fault_text : MapFault → List ℕ
+map_fault_text (map_fault.Syntax place) = codes "Syntax at " ++ decimal place
+map_fault_text (map_fault.NoSlot k) = codes "NoSlot s" ++ decimal k
+map_fault_text (map_fault.Twice k) = codes "Twice s" ++ decimal k
+map_fault_text (map_fault.Untyped k) = codes "Untyped s" ++ decimal k
+map_fault_text (map_fault.Unfilled k) = codes "Unfilled s" ++ decimal k
+map_fault_text map_fault.OutOfMemory = []
+
+-- the word for a side
+abbrev pub side_text : WhichSide → List ℕ
+side_text Source = codes "source"
+side_text Target = codes "target"
+
 -- the lines that show two records of one line, without the last line feed
 abbrev pub witness_text : Confusion → List ℕ
 witness_text c =
@@ -59,9 +78,9 @@ witness_text c =
 -- what is said of a refusal, without its line feed
 abbrev pub refusal_text : Refusal → List ℕ
 refusal_text BadWords = codes "logfmt: bad command line"
-refusal_text (BadFormat place why) = codes "logfmt: source format: " ++ cause_text why ++ codes " at " ++ decimal place
-refusal_text (BadNarrowing why) = codes "logfmt: source narrowing: " ++ fault_text why
-refusal_text NotBuilt = codes "logfmt: not built"
+refusal_text (BadFormat which place why) = codes "logfmt: " ++ side_text which ++ codes " format: " ++ cause_text why ++ codes " at " ++ decimal place
+refusal_text (BadNarrowing which why) = codes "logfmt: " ++ side_text which ++ codes " narrowing: " ++ fault_text why
+refusal_text (BadMap why) = codes "logfmt: map: " ++ map_fault_text why
 refusal_text (TooLarge size) = codes "logfmt: size " ++ decimal size ++ codes " over " ++ decimal most_size
 refusal_text (NoteLine rec) = codes "logfmt: note line: " ++ json_text rec
 refusal_text (Confused confusion) = witness_text confusion
@@ -71,9 +90,9 @@ abbrev pub refusal_status : Refusal → ℕ
 refusal_status (TooLarge size) = statuses.too_large
 refusal_status (Confused confusion) = statuses.ambiguous
 refusal_status BadWords = statuses.usage
-refusal_status (BadFormat place why) = statuses.usage
-refusal_status (BadNarrowing why) = statuses.usage
-refusal_status NotBuilt = statuses.usage
+refusal_status (BadFormat which place why) = statuses.usage
+refusal_status (BadNarrowing which why) = statuses.usage
+refusal_status (BadMap why) = statuses.usage
 refusal_status (NoteLine rec) = statuses.usage
 
 -- an outcome that only writes a line on `err`
@@ -122,6 +141,7 @@ HasOutcome (Lines job) input o = (verdicts : List Verdict) × AreVerdicts job (l
 HasOutcome (Readable slots) input o = o ≡ told_out statuses.done (codes "readable " ++ decimal slots)
 HasOutcome (Witness confusion) input o = o ≡ told_out statuses.ambiguous (witness_text confusion)
 HasOutcome (Show format) input o = o ≡ shown format
+HasOutcome (Generate format seed count) input o = (text : List ℕ) × IsSummary format seed count text × (o ≡ told_out statuses.done text)
 HasOutcome (Refuse refusal) input o = o ≡ told_err (refusal_status refusal) (refusal_text refusal)
 
 -- The command on this input has one outcome and no other.

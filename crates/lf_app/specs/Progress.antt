@@ -8,7 +8,7 @@ use Rattle.lf_stream.specs.Standing.{Stands, is_finished, room_of, has_notes as 
 use Rattle.lf_limits.specs.Limits.{least_room}
 use Rattle.lf_stream.specs.declared.lines.Lines.{Lines as Cutter}
 use Rattle.lf_app.specs.declared.commands.Command.{Command}
-use Rattle.lf_app.specs.declared.commands.Command.TheVariants.{Lines, Readable, Witness, Show, Refuse}
+use Rattle.lf_app.specs.declared.commands.Command.TheVariants.{Lines, Readable, Witness, Show, Generate, Refuse}
 use Rattle.lf_app.specs.declared.commands.Job.{Job}
 use Rattle.lf_app.specs.declared.commands.Job.TheVariants as jobs
 use Rattle.lf_app.specs.declared.commands.Refusal.{Refusal}
@@ -73,6 +73,7 @@ ReadsNext is_some job over lines old new stream found =
 abbrev pub CanWork : Job → Type 0
 CanWork (jobs.Read format) = IsReadable format.pieces
 CanWork (jobs.Write format) = Unit {0}
+CanWork (jobs.Translate plan) = IsReadable plan.source.pieces
 
 -- The records of a confusion have a JSON text.
 pub record HasRecords (confusion : Confusion) : Type 0 where
@@ -82,9 +83,9 @@ pub record HasRecords (confusion : Confusion) : Type 0 where
 -- What is said of the refusal can be written: records that it shows have a JSON text.
 abbrev pub CanTell : Refusal → Type 0
 CanTell refusals.BadWords = Unit {0}
-CanTell (refusals.BadFormat place cause) = Unit {0}
-CanTell (refusals.BadNarrowing fault) = Unit {0}
-CanTell refusals.NotBuilt = Unit {0}
+CanTell (refusals.BadFormat which place cause) = Unit {0}
+CanTell (refusals.BadNarrowing which fault) = Unit {0}
+CanTell (refusals.BadMap fault) = Unit {0}
 CanTell (refusals.TooLarge size) = Unit {0}
 CanTell (refusals.NoteLine rec) = All HasJson rec
 CanTell (refusals.Confused confusion) = HasRecords confusion
@@ -95,4 +96,5 @@ IsReady (Lines job) = CanWork job
 IsReady (Readable slots) = Unit {0}
 IsReady (Witness confusion) = HasRecords confusion
 IsReady (Show format) = Unit {0}
+IsReady (Generate format seed count) = Unit {0}
 IsReady (Refuse refusal) = CanTell refusal

@@ -83,6 +83,7 @@ pub record HasStatus (command : Command) (input : List ℕ) (status : ℕ) : Typ
   pub status_is : status ≡ outcome.status
 
 -- `complete`: on an input of fewer than `most_run_bytes` bytes the status is the outcome's, or NoMemory.
+-- The clause of `run` asks it only where no count of faults rose.
 abbrev pub IsComplete : Command → ℕ → Option (List ℕ) → Type 0
 IsComplete command status left =
     (input : List ℕ) → Reads command left input → length input < most_run_bytes → HasStatus command input status ⊎ (status ≡ statuses.no_memory)

@@ -11,6 +11,7 @@ use Rattle.lf_spelling.specs.declared.fault.Cause.{Cause}
 use Rattle.lf_words.specs.declared.command.Side.{Side}
 use Rattle.lf_app.specs.declared.commands.Refusal.{Refusal}
 use Rattle.lf_app.specs.declared.commands.Refusal.TheVariants.{BadFormat, BadNarrowing}
+use Rattle.lf_app.specs.declared.commands.WhichSide.{WhichSide}
 use Rattle.lf_app.specs.declared.sides.SideFault.{SideFault}
 use Rattle.lf_app.specs.declared.sides.SideFault.TheVariants as side_fault
 
@@ -31,9 +32,9 @@ pub record Gives (side : Side) (format : Shape) : Type 0 where
   pub left : Leaves side.narrow spelled format
 
 -- The side is refused for this: its text has a fault, or it spells a format with which the narrowing has one.
-pub data IsFaultySide (side : Side) (refusal : Refusal) : Type 0 where
-  misspelled : (place : ℕ) (cause : Cause) → IsFaulty side.front side.format place cause → refusal ≡ BadFormat place cause → IsFaultySide side refusal
-  misnarrowed : (spelled : Shape) (fault : NarrowFault) → Spells side.front side.format spelled → HasFault side.narrow spelled fault → refusal ≡ BadNarrowing fault → IsFaultySide side refusal
+pub data IsFaultySide (which : WhichSide) (side : Side) (refusal : Refusal) : Type 0 where
+  misspelled : (place : ℕ) (cause : Cause) → IsFaulty side.front side.format place cause → refusal ≡ BadFormat which place cause → IsFaultySide which side refusal
+  misnarrowed : (spelled : Shape) (fault : NarrowFault) → Spells side.front side.format spelled → HasFault side.narrow spelled fault → refusal ≡ BadNarrowing which fault → IsFaultySide which side refusal
 
 -- The texts of the side are within the limit.
 pub record IsShort (side : Side) : Type 0 where
@@ -41,16 +42,16 @@ pub record IsShort (side : Side) : Type 0 where
   pub narrow : ForSome {T = List ℕ} side.narrow (λ text. length text ≤ most_text_bytes)
 
 -- what a narrowing's fault is as a side's
-abbrev pub side_fault_of : NarrowFault → SideFault
-side_fault_of fault.OutOfMemory = side_fault.OutOfMemory
-side_fault_of why = side_fault.Refused (BadNarrowing why)
+abbrev pub side_fault_of : WhichSide → NarrowFault → SideFault
+side_fault_of which fault.OutOfMemory = side_fault.OutOfMemory
+side_fault_of which why = side_fault.Refused (BadNarrowing which why)
 
 -- The side is refused for the fault, or memory ran out.
-abbrev pub IsSideFault : Side → SideFault → Type 0
-IsSideFault side (side_fault.Refused refusal) = IsFaultySide side refusal
-IsSideFault side side_fault.OutOfMemory = Unit {0}
+abbrev pub IsSideFault : WhichSide → Side → SideFault → Type 0
+IsSideFault which side (side_fault.Refused refusal) = IsFaultySide which side refusal
+IsSideFault which side side_fault.OutOfMemory = Unit {0}
 
 -- The narrowing has the fault, or memory ran out.
-abbrev pub IsNarrowingFault : Option (List ℕ) → Shape → SideFault → Type 0
-IsNarrowingFault narrow spelled (side_fault.Refused refusal) = (fault : NarrowFault) × HasFault narrow spelled fault × (refusal ≡ BadNarrowing fault)
-IsNarrowingFault narrow spelled side_fault.OutOfMemory = Unit {0}
+abbrev pub IsNarrowingFault : WhichSide → Option (List ℕ) → Shape → SideFault → Type 0
+IsNarrowingFault which narrow spelled (side_fault.Refused refusal) = (fault : NarrowFault) × HasFault narrow spelled fault × (refusal ≡ BadNarrowing which fault)
+IsNarrowingFault which narrow spelled side_fault.OutOfMemory = Unit {0}

@@ -11,12 +11,14 @@ pub fn words_are_one_command()
 {
     lf_words::laws::words_are_one_command_or_bad();
     lf_words::laws::format_is_a_word();
+    lf_words::laws::translation_has_a_target();
     lf_fronts::one_answer();
     lf_fronts::spelled_keeps();
     lf_narrow::one_answer();
     lf_narrow::narrowed_keeps();
     lf_compile::laws::one_answer();
     lf_compile::laws::some_answer();
+    lf_map::one_answer();
 }
 
 /// A command that some words are has one outcome on an input and no other.
@@ -28,4 +30,7 @@ pub fn command_has_one_outcome()
     lf_narrow::narrowed_keeps();
     lf_compile::laws::lines_are_decided();
     lf_json::laws::lines_have_one_reading();
+    lf_map::some_mapped();
+    lf_gen::laws::one_record();
+    lf_gen::laws::some_record();
 }

@@ -1,8 +1,8 @@
 //! What is to be written of lines: a text for each sink.
 
-ghost use Rattle.std.specs.Prelude.{◌≡◌, ◌||◌, true, false, ℕ, [], ◌∷◌, ◌++◌, OnOk};
+ghost use Rattle.std.specs.Prelude.{◌≡◌, ◌||◌, true, false, ℕ, [], ◌∷◌, ◌++◌, codes, OnOk};
 ghost use Rattle.std.specs.Fmt.{decimal};
-ghost use Rattle.lf_app.specs.Verdicts.{format_of, end_text, finding_text, finding_err, bad_text, is_listed, listed_line, IsOfFormat};
+ghost use Rattle.lf_app.specs.Verdicts.{format_of, finding_text, finding_err, bad_text, is_listed, listed_line, IsOfFormat};
 ghost use Rattle.lf_app.specs.declared.verdict.Finding.TheVariants as finding;
 ghost use Rattle.lf_app.specs.declared.verdict.Verdict.TheVariants as verdict;
 
@@ -10,8 +10,9 @@ use crate::commands::Job;
 use crate::verdict::{Finding, Verdict};
 use itoa::Buffer;
 use lf_core::{Bytes, OutOfMemory};
-use lf_format::{Format, LineEnd};
+use lf_format::Format;
 use lf_json::{BadRecord, write_record};
+use lf_log::end_of;
 use std::alloc::Global;
 
 /// What is to be written of the lines so far: the number of the last one, whether one was listed, and both texts.
@@ -31,6 +32,14 @@ pub fn push_number(number: u64, into: &mut Bytes) -> Result<(), OutOfMemory>
     into.extend(buffer.format(number).as_bytes())
 }
 
+/// Appends the name of the slot of this number, after a space.
+fn push_slot(slot: u32, into: &mut Bytes) -> Result<(), OutOfMemory>
+    ensures { OnOk result (into.new ≡ into.old ++ (codes " s" ++ decimal slot)) }
+{
+    into.extend(b" s")?;
+    push_number(slot as u64, into)
+}
+
 /// Appends why a line of JSON is no record.
 fn push_bad(bad: &BadRecord, into: &mut Bytes) -> Result<(), OutOfMemory>
     ensures { OnOk result (into.new ≡ into.old ++ bad_text bad.now) }
@@ -46,16 +55,6 @@ fn push_bad(bad: &BadRecord, into: &mut Bytes) -> Result<(), OutOfMemory>
             push_number(*slot as u64, into)
         }
         BadRecord::OutOfMemory => Ok(()),
-    }
-}
-
-/// What ends a line.
-fn end_of(end: LineEnd) -> &'static [u8]
-    ensures { result.now ≡ end_text end }
-{
-    match end {
-        LineEnd::Lf => b"\n",
-        LineEnd::CrLf => b"\r\n",
     }
 }
 
@@ -112,6 +111,18 @@ impl Report {
         self.err.push(b'\n')
     }
 
+    /// Lists the line that was counted last as one without a value for the slot of this number.
+    fn list_unmapped(&mut self, slot: u32) -> Result<(), OutOfMemory>
+        ensures count { self.new.count ≡ self.old.count }
+        ensures listed { self.new.is_partial ≡ true }
+        ensures out { self.new.out ≡ self.old.out }
+        ensures err { OnOk result (self.new.err ≡ self.old.err ++ finding_err self.old.count (finding.Unmapped slot)) }
+    {
+        self.list(b"unmapped ")?;
+        push_slot(slot, &mut self.err)?;
+        self.err.push(b'\n')
+    }
+
     /// Adds what was found of the line that was counted last.
     fn add_finding(&mut self, format: &Format, found: &Finding) -> Result<(), OutOfMemory>
         requires { IsOfFormat format.now (verdict.Found found.now) }
@@ -131,6 +142,11 @@ impl Report {
                 self.out.extend(end_of(format.end()))
             }
             Finding::Bad(bad) => self.list_bad(bad),
+            Finding::Turned(text) => {
+                self.out.extend(text.as_slice())?;
+                self.out.extend(end_of(format.end()))
+            }
+            Finding::Unmapped(slot) => self.list_unmapped(*slot),
         }
     }
 

@@ -19,6 +19,7 @@ use crate::status::Status;
 use crate::telling::tell_text;
 use lf_core::{OutOfMemory, Str};
 use lf_io::{Sink, Source};
+use lf_log::generated_text;
 use std::alloc::Global;
 use std::thread::Threads;
 
@@ -87,6 +88,11 @@ fn answer<S: Source, O: Sink, E: Sink>(
             Status::AMBIGUOUS,
         ),
         Command::Show(format) => tell_text(show_text(alloc, format), out, Status::DONE),
+        Command::Generate(reader, seed, count) => tell_text(
+            generated_text(alloc, reader, *seed, *count),
+            out,
+            Status::DONE,
+        ),
         Command::Refuse(refusal) => {
             tell_text(refusal_text(alloc, refusal), err, refusal_status(refusal))
         }

@@ -8,9 +8,9 @@ ghost use Rattle.lf_app.specs.declared.commands.Command.TheVariants as commands;
 ghost use Rattle.lf_app.specs.declared.commands.Refusal.TheVariants as refusals;
 ghost use Rattle.lf_app.specs.Progress.{HasRecords, IsReady};
 ghost use Rattle.lf_format.specs.Keeps.{slots_in};
-ghost use Rattle.lf_app.specs.Outcome.{cause_text, refusal_text as refusal_words, refusal_status as status_of, witness_text as witness_words, fault_text, kind_text, absent_text, slot_line, slot_lines};
+ghost use Rattle.lf_app.specs.Outcome.{cause_text, refusal_text as refusal_words, refusal_status as status_of, witness_text as witness_words, fault_text, map_fault_text, side_text, kind_text, absent_text, slot_line, slot_lines};
 
-use crate::commands::Refusal;
+use crate::commands::{Refusal, WhichSide};
 use crate::report::push_number;
 use crate::status::Status;
 use lf_compile::Confusion;
@@ -18,6 +18,7 @@ use lf_core::{Bytes, OutOfMemory, Record};
 use lf_format::{Absent, Format, Piece, Slot, ValueKind};
 use lf_json::{write_record, write_text};
 use lf_limits::MOST_SIZE;
+use lf_map::MapFault;
 use lf_narrow::NarrowFault;
 use lf_spelling::Cause;
 use std::alloc::Global;
@@ -120,11 +121,35 @@ fn push_witness(confusion: &Confusion, into: &mut Bytes) -> Result<(), OutOfMemo
     Ok(())
 }
 
-/// Appends the fault of a format.
-fn push_fault(place: u32, cause: Cause, into: &mut Bytes) -> Result<(), OutOfMemory>
-    ensures { OnOk result (into.new ≡ into.old ++ refusal_words (refusals.BadFormat place cause)) }
+/// The word for a side.
+fn side_word(which: WhichSide) -> &'static [u8]
+    ensures { result.now ≡ side_text which }
 {
-    into.extend(b"logfmt: source format: ")?;
+    match which {
+        WhichSide::Source => b"source",
+        WhichSide::Target => b"target",
+    }
+}
+
+/// Appends the name of the program, and the word for a side.
+fn push_side(which: WhichSide, into: &mut Bytes) -> Result<(), OutOfMemory>
+    ensures { OnOk result (into.new ≡ into.old ++ (codes "logfmt: " ++ side_text which)) }
+{
+    into.extend(b"logfmt: ")?;
+    into.extend(side_word(which))
+}
+
+/// Appends the fault of a format.
+fn push_fault(
+    which: WhichSide,
+    place: u32,
+    cause: Cause,
+    into: &mut Bytes,
+) -> Result<(), OutOfMemory>
+    ensures { OnOk result (into.new ≡ into.old ++ refusal_words (refusals.BadFormat which place cause)) }
+{
+    push_side(which, into)?;
+    into.extend(b" format: ")?;
     into.extend(cause_word(cause))?;
     into.extend(b" at ")?;
     push_number(place as u64, into)?;
@@ -153,11 +178,34 @@ fn push_cause(fault: NarrowFault, into: &mut Bytes) -> Result<(), OutOfMemory>
 }
 
 /// Appends the fault of a narrowing.
-fn push_narrowing(fault: NarrowFault, into: &mut Bytes) -> Result<(), OutOfMemory>
-    ensures { OnOk result (into.new ≡ into.old ++ refusal_words (refusals.BadNarrowing fault)) }
+fn push_narrowing(which: WhichSide, fault: NarrowFault, into: &mut Bytes) -> Result<(), OutOfMemory>
+    ensures { OnOk result (into.new ≡ into.old ++ refusal_words (refusals.BadNarrowing which fault)) }
 {
-    into.extend(b"logfmt: source narrowing: ")?;
+    push_side(which, into)?;
+    into.extend(b" narrowing: ")?;
     push_cause(fault, into)
+}
+
+/// Appends what is said of a map's fault.
+fn push_map_cause(fault: MapFault, into: &mut Bytes) -> Result<(), OutOfMemory>
+    ensures { OnOk result (into.new ≡ into.old ++ map_fault_text fault) }
+{
+    match fault {
+        MapFault::Syntax(place) => push_numbered(b"Syntax at ", place, into),
+        MapFault::NoSlot(slot) => push_numbered(b"NoSlot s", slot, into),
+        MapFault::Twice(slot) => push_numbered(b"Twice s", slot, into),
+        MapFault::Untyped(slot) => push_numbered(b"Untyped s", slot, into),
+        MapFault::Unfilled(slot) => push_numbered(b"Unfilled s", slot, into),
+        MapFault::OutOfMemory => Ok(()),
+    }
+}
+
+/// Appends the fault of a map.
+fn push_map(fault: MapFault, into: &mut Bytes) -> Result<(), OutOfMemory>
+    ensures { OnOk result (into.new ≡ into.old ++ refusal_words (refusals.BadMap fault)) }
+{
+    into.extend(b"logfmt: map: ")?;
+    push_map_cause(fault, into)
 }
 
 /// Appends the size of a format that is too large.
@@ -187,9 +235,9 @@ fn push_refusal(refusal: &Refusal, into: &mut Bytes) -> Result<(), OutOfMemory>
 {
     match refusal {
         Refusal::BadWords => into.extend(b"logfmt: bad command line"),
-        Refusal::NotBuilt => into.extend(b"logfmt: not built"),
-        Refusal::BadFormat(place, cause) => push_fault(*place, *cause, into),
-        Refusal::BadNarrowing(fault) => push_narrowing(*fault, into),
+        Refusal::BadFormat(which, place, cause) => push_fault(*which, *place, *cause, into),
+        Refusal::BadNarrowing(which, fault) => push_narrowing(*which, *fault, into),
+        Refusal::BadMap(fault) => push_map(*fault, into),
         Refusal::TooLarge(size) => push_size(*size, into),
         Refusal::NoteLine(record) => push_note(record, into),
         Refusal::Confused(confusion) => push_witness(confusion, into),
@@ -215,9 +263,9 @@ pub fn refusal_status(refusal: &Refusal) -> Status
         Refusal::TooLarge(_) => Status::TOO_LARGE,
         Refusal::Confused(_) => Status::AMBIGUOUS,
         Refusal::BadWords
-        | Refusal::BadFormat(_, _)
-        | Refusal::BadNarrowing(_)
-        | Refusal::NotBuilt
+        | Refusal::BadFormat(_, _, _)
+        | Refusal::BadNarrowing(_, _)
+        | Refusal::BadMap(_)
         | Refusal::NoteLine(_) => Status::USAGE,
     }
 }

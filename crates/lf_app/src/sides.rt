@@ -5,7 +5,7 @@ ghost use Rattle.std.specs.Option.{ForSome};
 ghost use Rattle.lf_limits.specs.Limits.{most_text_bytes};
 ghost use Rattle.lf_app.specs.Sides.{Leaves, Gives, IsShort, IsSideFault, IsNarrowingFault, side_fault_of};
 
-use crate::commands::Refusal;
+use crate::commands::{Refusal, WhichSide};
 use lf_core::Str;
 use lf_format::Format;
 use lf_fronts::parse;
@@ -22,43 +22,48 @@ pub enum SideFault {
 }
 
 /// The fault of a narrowing as that of its side.
-fn side_fault(fault: NarrowFault) -> SideFault
-    ensures { result ≡ side_fault_of fault }
+fn side_fault(which: WhichSide, fault: NarrowFault) -> SideFault
+    ensures { result ≡ side_fault_of which fault }
 {
     match fault {
         NarrowFault::OutOfMemory => SideFault::OutOfMemory,
         NarrowFault::Syntax(_)
         | NarrowFault::NoSlot(_)
         | NarrowFault::WrongKind(_)
-        | NarrowFault::Empty(_) => SideFault::Refused(Refusal::BadNarrowing(fault)),
+        | NarrowFault::Empty(_) => SideFault::Refused(Refusal::BadNarrowing(which, fault)),
     }
 }
 
 /// What the narrowing, if one is given, leaves of the format.
-fn narrow_by(alloc: Global, format: Format, narrowing: &Option<Str>) -> Result<Format, SideFault>
+fn narrow_by(
+    alloc: Global,
+    which: WhichSide,
+    format: Format,
+    narrowing: &Option<Str>,
+) -> Result<Format, SideFault>
     requires { ForSome {T = List ℕ} narrowing.now (λ text. length text ≤ most_text_bytes) }
     ensures left { IfOk result (Leaves narrowing.now format) }
-    ensures fault { IfErr result (IsNarrowingFault narrowing.now format) }
+    ensures fault { IfErr result (IsNarrowingFault which narrowing.now format) }
 {
     let Some(text) = narrowing else {
         return Ok(format);
     };
     match narrow(alloc, format, text.as_str()) {
         Ok(left) => Ok(left),
-        Err(NarrowRefused { format: _, fault }) => Err(side_fault(fault)),
+        Err(NarrowRefused { format: _, fault }) => Err(side_fault(which, fault)),
     }
 }
 
 /// The format that a side gives.
-pub fn read_side(alloc: Global, side: &Side) -> Result<Format, SideFault>
+pub fn read_side(alloc: Global, which: WhichSide, side: &Side) -> Result<Format, SideFault>
     requires { IsShort side.now }
     ensures given { IfOk result (Gives side.now) }
-    ensures fault { IfErr result (IsSideFault side.now) }
+    ensures fault { IfErr result (IsSideFault which side.now) }
 {
     match parse(alloc, side.front, side.format.as_str()) {
-        Ok(format) => narrow_by(alloc, format, &side.narrow),
+        Ok(format) => narrow_by(alloc, which, format, &side.narrow),
         Err(FormatFault::At(place, cause)) => {
-            Err(SideFault::Refused(Refusal::BadFormat(place, cause)))
+            Err(SideFault::Refused(Refusal::BadFormat(which, place, cause)))
         }
         Err(FormatFault::OutOfMemory) => Err(SideFault::OutOfMemory),
     }

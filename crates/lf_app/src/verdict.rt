@@ -7,19 +7,23 @@ ghost use Rattle.lf_app.specs.declared.verdict.Verdict.TheVariants as verdict;
 ghost use Rattle.lf_app.specs.Verdicts.{format_of, has_notes, IsFound, IsVerdict, IsOfFormat};
 
 use crate::commands::Job;
-use lf_core::{OutOfMemory, Record};
+use lf_core::{Bytes, OutOfMemory, Record};
 use lf_json::{BadRecord, read_record};
 use lf_stream::Body;
+use lf_translate::Turned;
 use std::alloc::Global;
 
 /// What is found of a line: the record that prints it, or that none does; or the record that it is as
-/// JSON, or why it is none.
+/// JSON, or why it is none; or the line of another format that it is turned to, or the first slot of that
+/// format that has no value for it.
 #[derive(Debug, Drop)]
 pub enum Finding {
     Read(Record),
     Unread,
     Given(Record),
     Bad(BadRecord),
+    Turned(Bytes),
+    Unmapped(u32),
 }
 
 /// What is said of a line: it is a note, or longer than `MOST_LINE_BYTES`, or what is found of it.
@@ -45,6 +49,11 @@ fn find(alloc: Global, job: &Job, line: &[u8]) -> Result<Finding, OutOfMemory>
             Ok(record) => Ok(Finding::Given(record)),
             Err(BadRecord::OutOfMemory) => Err(OutOfMemory),
             Err(bad) => Ok(Finding::Bad(bad)),
+        },
+        Job::Translate(translation) => match translation.turn(alloc, line)? {
+            None => Ok(Finding::Unread),
+            Some(Turned::Line(text)) => Ok(Finding::Turned(text)),
+            Some(Turned::Unmapped(slot)) => Ok(Finding::Unmapped(slot)),
         },
     }
 }

@@ -5,3 +5,4 @@ pub mod Least
 pub mod OneCause
 pub mod SomeAnswer
 pub mod Lines
+pub mod SetLaws

@@ -2,3 +2,4 @@
 pub mod Confused
 pub mod Notes
 pub mod Accepted
+pub mod Tabled

@@ -11,6 +11,7 @@ ghost use Rattle.lf_compile.specs.declared.refused.Confusion.{Confusion};
 ghost use Rattle.lf_compile.specs.declared.refused.Refused.{Refused};
 
 use crate::confusion::least_confusion;
+use crate::finder::Finder;
 use crate::note::least_note;
 use crate::reader::Reader;
 use crate::refused::{CompileRefused, Refused};
@@ -19,7 +20,6 @@ use lf_format::Format;
 use lf_limits::MOST_SIZE;
 use lf_machine::FormatMachine;
 use lf_product::{Pairs, distances};
-use lf_written::WrittenOut;
 use std::alloc::Global;
 
 /// The reader of a readable format. A refusal gives the format back.
@@ -43,17 +43,17 @@ pub fn compile(alloc: Global, format: Format) -> Result<Reader, CompileRefused>
             cause: Refused::TooLarge(size),
         });
     }
-    match readable_machine(alloc, &format) {
-        Ok(machine) => Ok(Reader::new(format, machine)),
+    match finder_of(alloc, &format) {
+        Ok(finder) => Ok(Reader::new(format, finder)),
         Err(cause) => Err(CompileRefused { format, cause }),
     }
 }
 
-/// The machine of the format, where that has a reader.
-fn readable_machine(alloc: Global, format: &Format) -> Result<WrittenOut<FormatMachine>, Refused>
+/// The finder of the runs of the format, where that has a reader.
+fn finder_of(alloc: Global, format: &Format) -> Result<Finder, Refused>
     requires { size_of format.now.pieces ≤ most_size }
-    ensures same { IfOk result (λ machine. machine ≡ format.now.pieces) }
-    ensures ok { IfOk result (λ machine. IsAccepted format.now) }
+    ensures same { IfOk result (λ finder. finder ≡ format.now.pieces) }
+    ensures ok { IfOk result (λ finder. IsAccepted format.now) }
     ensures err { IfErr result (λ cause. IsCauseOf format.now cause) }
 {
     let machine = FormatMachine::build(alloc, format)?;
@@ -64,7 +64,7 @@ fn readable_machine(alloc: Global, format: &Format) -> Result<WrittenOut<FormatM
     }
     match least_confusion(alloc, &machine, &pairs)? {
         Some(confusion) => Err(Refused::Ambiguous(confusion)),
-        None => Ok(WrittenOut::new(machine, pairs.into_table())),
+        None => Ok(Finder::new(alloc, machine, pairs.into_table())?),
     }
 }
 

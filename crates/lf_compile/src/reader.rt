@@ -1,15 +1,14 @@
 //! The reader of a readable format.
-ghost use Rattle.std.specs.Prelude.{◌≡◌, MatchOption, IfOk};
+ghost use Rattle.std.specs.Prelude.{◌≡◌, MatchBool, MatchOption, IfOk};
 ghost use Rattle.lf_format.specs.Lines.{IsReadable, PrintsNone};
 ghost use Rattle.lf_compile.specs.Accepted.{IsAccepted};
 ghost use Rattle.lf_compile.specs.Confused.{IsOnlyRecord};
+ghost use Rattle.lf_compile.specs.Tabled.{HasManySets, IsTabled};
 
+use crate::finder::Finder;
 use crate::meaning::{decode, has_runs};
 use lf_core::{OutOfMemory, Record};
 use lf_format::Format;
-use lf_machine::FormatMachine;
-use lf_sets::SetReader;
-use lf_written::WrittenOut;
 use std::alloc::Global;
 use std::marker::Model;
 
@@ -17,7 +16,7 @@ use std::marker::Model;
 #[derive(Drop)]
 pub struct Reader {
     format: Format,
-    machine: WrittenOut<FormatMachine>,
+    finder: Finder,
 }
 
 impl Model for Reader {
@@ -28,16 +27,16 @@ impl Model for Reader {
 
     ghost view = { λ r. r.format };
 
-    ghost invariant = { λ r. IsReader r.format r.machine };
+    ghost invariant = { λ r. IsReader r.format r.finder };
 }
 
 impl Reader {
-    pub(crate) fn new(format: Format, machine: WrittenOut<FormatMachine>) -> Reader
+    pub(crate) fn new(format: Format, finder: Finder) -> Reader
         requires accepted { IsAccepted format }
-        requires same { machine ≡ format.pieces }
+        requires same { finder ≡ format.pieces }
         ensures { result ≡ format }
     {
-        Reader { format, machine }
+        Reader { format, finder }
     }
 
     /// The format that was compiled.
@@ -51,35 +50,40 @@ impl Reader {
     pub fn is_accepted(&self)
         ensures { IsAccepted self.now }
     {
-        let _machine = &self.machine;
+        let _finder = &self.finder;
+    }
+
+    /// Whether lines are read by tables: exactly where the format's machine reaches no more sets of points than tables
+    /// may have.
+    pub fn tabled(&self) -> bool
+        ensures { MatchBool result (IsTabled self.now) (HasManySets self.now.pieces) }
+    {
+        self.finder.tabled()
     }
 
     /// The one record that prints the line; None exactly where no record does.
-    /// Beside the record, memory is used for 16 bytes each byte of the line, and for the points that are reached: 16 each
-    /// point after each byte of one block of 1,024 bytes, and 4 each point where a block begins.
+    /// Beside the record, memory is used for 10 bytes each byte of the line where there are tables, and else as
+    /// `SetReader` says.
     pub fn read(&self, alloc: Global, line: &[u8]) -> Result<Option<Record>, OutOfMemory>
         ensures { IfOk result (λ found. MatchOption found
             (PrintsNone self.now.pieces line.now)
             (λ rec. IsOnlyRecord self.now.pieces line.now rec)) }
     {
         self.is_accepted();
-        read_line(alloc, &self.machine, line)
+        read_line(alloc, &self.finder, line)
     }
 }
 
-/// The one record of a readable format's machine that prints the line.
-fn read_line(
-    alloc: Global,
-    machine: &WrittenOut<FormatMachine>,
-    line: &[u8],
-) -> Result<Option<Record>, OutOfMemory>
-    requires { IsReadable machine.now }
+/// The one record of a readable format that prints the line.
+fn read_line(alloc: Global, finder: &Finder, line: &[u8]) -> Result<Option<Record>, OutOfMemory>
+    requires { IsReadable finder.now }
     ensures { IfOk result (λ found. MatchOption found
-        (PrintsNone machine.now line.now)
-        (λ rec. IsOnlyRecord machine.now line.now rec)) }
+        (PrintsNone finder.now line.now)
+        (λ rec. IsOnlyRecord finder.now line.now rec)) }
 {
+    let machine = finder.machine();
     has_runs(machine);
-    match SetReader::run(alloc, machine, line)? {
+    match finder.run(alloc, line)? {
         None => Ok(None),
         Some(run) => Ok(Some(decode(machine, &run)?)),
     }

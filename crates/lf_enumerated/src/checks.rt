@@ -4,7 +4,7 @@ use crate::orders::{record_cmp, run_cmp};
 use crate::records::{line_of, lines_of, texts_of};
 use crate::search::{Told, found_in, runs_over};
 use crate::shapes::{Row, format_of};
-use lf_compile::{Confusion, Refused, compile};
+use lf_compile::{Confusion, Reader, Refused, compile};
 use lf_core::{Bytes, Record};
 use lf_format::Format;
 use lf_limits::MOST_SIZE;
@@ -141,13 +141,41 @@ fn check_confusion(
     Ok(())
 }
 
+/// Whether both are the same record, or none.
+fn is_same(format: &Format, one: &Option<Record>, other: &Option<Record>) -> bool {
+    match (one, other) {
+        (Some(one), Some(other)) => record_cmp(format, one, other) == Ordering::Equal,
+        (None, None) => true,
+        _ => false,
+    }
+}
+
+/// Each line is read by tables as it is by sets of points.
+fn check_reader(
+    alloc: Global,
+    parts: &Parts,
+    reader: &Reader,
+    lines: &[Bytes],
+) -> Result<(), Fail> {
+    expect(reader.tabled(), "no tables")?;
+    for line in lines {
+        let by_tables = reader.read(alloc, line.as_slice())?;
+        let by_sets = found_in(alloc, &parts.machine, line.as_slice())?;
+        let is = is_same(&parts.format, &by_tables, &by_sets);
+        expect(is, "another record is read")?;
+    }
+    Ok(())
+}
+
 /// The format is accepted where no line has two records, and else refused for the first such line.
-fn check_answer(alloc: Global, parts: &Parts, least: Option<&[u8]>) -> Result<(), Fail> {
+fn check_answer(
+    alloc: Global,
+    parts: &Parts,
+    lines: &[Bytes],
+    least: Option<&[u8]>,
+) -> Result<(), Fail> {
     match (compile(alloc, parts.format.copy()?), least) {
-        (Ok(reader), None) => {
-            shared(&reader);
-            Ok(())
-        }
+        (Ok(reader), None) => check_reader(alloc, parts, &reader, lines),
         (Err(refused), Some(line)) => match &refused.cause {
             Refused::Ambiguous(found) => check_confusion(alloc, parts, found, line),
             _ => Err("another cause".into()),
@@ -184,5 +212,13 @@ pub(crate) fn check_format(
     let least = least.map(|line| line.as_bytes());
     let confused = seen.confused.as_ref().map(|line| line.as_slice());
     expect(confused == least, "another least line")?;
-    check_answer(alloc, &parts, least)
+    check_answer(alloc, &parts, texts.as_slice(), least)
+}
+
+/// Whether the lines of the format are read by tables.
+pub(crate) fn is_tabled(alloc: Global, rows: &[Row], between: Option<u8>) -> Result<bool, Fail> {
+    match compile(alloc, format_of(alloc, rows, between)?) {
+        Ok(reader) => Ok(reader.tabled()),
+        Err(_refused) => Err("the format is refused".into()),
+    }
 }

@@ -1,6 +1,6 @@
 //! Small formats, line by line.
 
-use crate::checks::check_format;
+use crate::checks::{check_format, is_tabled};
 use crate::shapes::Row;
 use lf_format::Absent::{Blank, Dash, DashTwo, No};
 use lf_format::Coding::{
@@ -145,4 +145,16 @@ fn captures_are_told_apart(rt: HostRuntime) -> Result<(), Fail> {
 fn brackets_are_told_apart(rt: HostRuntime) -> Result<(), Fail> {
     let slot = Row::of("]a", 1, HaEscape, Dash);
     check_format(rt.alloc(), &[slot, slot], Some(b'|'), "]\\a|-", 6, None)
+}
+
+#[test]
+fn many_sets_have_no_tables(rt: HostRuntime) -> Result<(), Fail> {
+    let first = Row::of("ab", 1, Raw, Dash).present();
+    for (length, tabled) in [(1, true), (14, true), (17, false)] {
+        let second = Row::of("ab", length, Raw, Dash).at_most(length).present();
+        if is_tabled(rt.alloc(), &[first, second], Some(b'a'))? != tabled {
+            return Err("tables for other lengths".into());
+        }
+    }
+    Ok(())
 }

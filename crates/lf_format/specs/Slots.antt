@@ -18,6 +18,7 @@ holds_missing DashTwo present = not present
 holds_missing Blank present = not present
 
 -- A value with this plain text isn't taken for absence: `-` is under `Dash` without quotes, and the empty text under `Blank`.
+-- Under `DashTwo` none is: absence and a lone dash are two values.
 abbrev pub IsNotAbsence : Absent → Bool → List ℕ → Type 0
 IsNotAbsence No quoted plain = Unit {0}
 IsNotAbsence Dash quoted plain = cond quoted (Unit {0}) (plain ≢ 45 ∷ [])

@@ -11,3 +11,5 @@ pub mod TimeOrder
 pub mod TimeFirst
 pub mod Choosing
 pub mod DrawnRecords
+pub mod Existence
+pub mod OneDrawn

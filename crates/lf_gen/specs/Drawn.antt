@@ -1,5 +1,5 @@
 -- The record that is drawn from a state.
-use Rattle.std.specs.Prelude.{◌≡◌, ℕ, List, [], ◌∷◌, Some}
+use Rattle.std.specs.Prelude.{◌≡◌, ℕ, zero, suc, List, [], ◌∷◌, Some}
 use Rattle.lf_core.specs.declared.values.Value.{Value}
 use Rattle.lf_format.specs.Slots.{Holds}
 use Rattle.lf_format.specs.declared.slot.Slot.{Slot as OneSlot}
@@ -35,3 +35,13 @@ abbrev pub record_state : List Piece → ℕ → ℕ
 record_state [] x = x
 record_state (Literal text ∷ pieces) x = record_state pieces x
 record_state (Slot slot ∷ pieces) x = record_state pieces (slot_state slot x)
+
+-- the state after the draws of so many records
+abbrev pub state_past : List Piece → ℕ → ℕ → ℕ
+state_past pieces zero x = x
+state_past pieces (suc count) x = state_past pieces count (record_state pieces x)
+
+-- These records are drawn, one after the other.
+abbrev pub AreDrawn : List Piece → ℕ → List (List Value) → Type 0
+AreDrawn pieces x [] = Unit {0}
+AreDrawn pieces x (rec ∷ records) = IsDrawn pieces x rec × AreDrawn pieces (record_state pieces x) records

@@ -30,9 +30,11 @@ state_after (suc count) x = state_after count (next_state x)
 unfoldable pub span : ℤ → ℤ → ℕ
 span lo hi = min (unsigned_abs (hi -ℤ lo)) 999999 + 1
 
+-- a number of the range from `lo` on, by one draw; none where the range is empty
 abbrev pub drawn_number : ℤ → ℤ → ℕ → Option Value
 drawn_number lo hi x = if int_le lo hi then Some (value.Num (lo +ℤ pos (draw x % span lo hi))) else None
 
+-- a word of the list, by one draw; none where there is no word
 abbrev pub drawn_word : List (List ℕ) → ℕ → Option Value
 drawn_word [] x = None
 drawn_word words x = Some (value.Text (slice_index_or words (draw x % length words) []))
@@ -62,6 +64,7 @@ drawn_text set least most x = drawn_letters set (letter_draws set least most x) 
 abbrev pub drawn_query : Class → ℕ → List ℕ
 drawn_query set x = if draw x % 2 == 0 then [] else 63 ∷ drawn_text set 0 None (next_state x)
 
+-- how many draws a query text takes
 abbrev pub query_draws : Class → ℕ → ℕ
 query_draws set x = if draw x % 2 == 0 then 1 else letter_draws set 0 None (next_state x) + 2
 
@@ -87,12 +90,15 @@ drawn_moment millis offset x = record {
   offset = if offset then drawn_offset (state_if millis (next_state x)) else pos 0;
 }
 
+-- a moment with the parts that the layout writes
 abbrev pub drawn_time : Layout → ℕ → Option Value
 drawn_time layout x = Some (value.Moment (drawn_moment layout.millis (writes_offset layout.zone) x))
 
+-- one where the test holds, and else none
 abbrev pub one_if : Bool → ℕ
 one_if test = if test then 1 else 0
 
+-- how many draws a moment of the layout takes
 abbrev pub time_draws : Layout → ℕ
 time_draws layout = one_if (writes_offset layout.zone) + one_if layout.millis + 1
 

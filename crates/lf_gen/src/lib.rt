@@ -5,6 +5,8 @@ mod candidate;
 mod draws;
 mod enough;
 mod key;
+/// Laws over the definitions: each state draws one record.
+pub mod laws;
 mod least;
 mod letters;
 mod record;

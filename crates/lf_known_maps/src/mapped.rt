@@ -95,6 +95,50 @@ s1=utc(-) => [\"2000-10-10T13:55:36.000-07:00\",null,0,null,0] => Untyped s1",
 }
 
 #[test]
+fn strings(rt: HostRuntime) -> Result<(), Fail> {
+    let source = Side {
+        front: Front::Apache,
+        text: "%t %r %B",
+    };
+    let target = Side {
+        front: Front::Apache,
+        text: "%r",
+    };
+    check_rows(
+        &rt,
+        rt.alloc(),
+        &source,
+        &target,
+        "s1=\" ~\" => [\"2000-10-10T13:55:36.000-07:00\",\"GET /a\",1] =>  ~
+s1=\"\u{1f}\" => [\"2000-10-10T13:55:36.000-07:00\",\"GET /a\",1] => Syntax at 4
+s1=\"\u{7f}\" => [\"2000-10-10T13:55:36.000-07:00\",\"GET /a\",1] => Syntax at 4
+s1=\"a\tb\" => [\"2000-10-10T13:55:36.000-07:00\",\"GET /a\",1] => Syntax at 5
+s1=\"é\" => [\"2000-10-10T13:55:36.000-07:00\",\"GET /a\",1] => Syntax at 4
+s1=\"\\x00\" => [\"2000-10-10T13:55:36.000-07:00\",\"GET /a\",1] => \\x00
+s1=\"\\xff\" => [\"2000-10-10T13:55:36.000-07:00\",\"GET /a\",1] => \\xff
+s1=\"\\xFf\" => [\"2000-10-10T13:55:36.000-07:00\",\"GET /a\",1] => \\xff
+s1=\"\\xfg\" => [\"2000-10-10T13:55:36.000-07:00\",\"GET /a\",1] => Syntax at 7
+s1=\"\\xg0\" => [\"2000-10-10T13:55:36.000-07:00\",\"GET /a\",1] => Syntax at 6
+s1=\"\\a\" => [\"2000-10-10T13:55:36.000-07:00\",\"GET /a\",1] => Syntax at 5
+s1=\"\\X41\" => [\"2000-10-10T13:55:36.000-07:00\",\"GET /a\",1] => Syntax at 5
+s1=\" !#[]^~\" => [\"2000-10-10T13:55:36.000-07:00\",\"GET /a\",1] =>  !#[]^~
+ s1=\"a\" => [\"2000-10-10T13:55:36.000-07:00\",\"GET /a\",1] => Syntax at 0
+s1 =\"a\" => [\"2000-10-10T13:55:36.000-07:00\",\"GET /a\",1] => Syntax at 2
+s1= \"a\" => [\"2000-10-10T13:55:36.000-07:00\",\"GET /a\",1] => Syntax at 3
+s1=\"a\"  => [\"2000-10-10T13:55:36.000-07:00\",\"GET /a\",1] => Syntax at 6
+s1=\"a\"; => [\"2000-10-10T13:55:36.000-07:00\",\"GET /a\",1] => Syntax at 7
+s1=\"a\"; s1=\"b\" => [\"2000-10-10T13:55:36.000-07:00\",\"GET /a\",1] => Syntax at 7
+;s1=\"a\" => [\"2000-10-10T13:55:36.000-07:00\",\"GET /a\",1] => Syntax at 0
+s1=s2; => [\"2000-10-10T13:55:36.000-07:00\",\"GET /a\",1] => Syntax at 6
+s1=\"\"s2 => [\"2000-10-10T13:55:36.000-07:00\",\"GET /a\",1] => Syntax at 5
+s1=\"a;b\" => [\"2000-10-10T13:55:36.000-07:00\",\"GET /a\",1] => a;b
+s1=\"a\\\" => [\"2000-10-10T13:55:36.000-07:00\",\"GET /a\",1] => Syntax at 7
+s1=\"a\\\";s1=b\" => [\"2000-10-10T13:55:36.000-07:00\",\"GET /a\",1] => a\\\";s1=b
+s1=\"a\\\\\";x => [\"2000-10-10T13:55:36.000-07:00\",\"GET /a\",1] => Syntax at 9",
+    )
+}
+
+#[test]
 fn numbers(rt: HostRuntime) -> Result<(), Fail> {
     let source = Side {
         front: Front::Apache,
@@ -553,6 +597,22 @@ s1=utc(utc(utc(utc(utc(utc(utc(utc(utc(utc(utc(utc(utc(utc(utc(utc(s1)))))))))))
 s1=utc(utc(utc(utc(utc(utc(utc(utc(utc(utc(utc(utc(utc(utc(utc(utc(utc(s1))))))))))))))))) => [\"2000-10-10T13:55:36.000-07:00\"] => Syntax at 67
 s1=or(-,or(-,or(-,or(-,or(-,or(-,or(-,or(-,or(-,or(-,or(-,or(-,or(-,or(-,or(-,s1))))))))))))))) => [\"2000-10-10T13:55:36.000-07:00\"] => [10/Oct/2000:13:55:36 -0700]
 s1=or(-,or(-,or(-,or(-,or(-,or(-,or(-,or(-,or(-,or(-,or(-,or(-,or(-,or(-,or(-,or(-,s1)))))))))))))))) => [\"2000-10-10T13:55:36.000-07:00\"] => [10/Oct/2000:13:55:36 -0700]
-s1=or(-,or(-,or(-,or(-,or(-,or(-,or(-,or(-,or(-,or(-,or(-,or(-,or(-,or(-,or(-,or(-,or(-,s1))))))))))))))))) => [\"2000-10-10T13:55:36.000-07:00\"] => Syntax at 83",
+s1=or(-,or(-,or(-,or(-,or(-,or(-,or(-,or(-,or(-,or(-,or(-,or(-,or(-,or(-,or(-,or(-,or(-,s1))))))))))))))))) => [\"2000-10-10T13:55:36.000-07:00\"] => Syntax at 83
+s1=utc(utc(utc(utc(utc(utc(utc(utc(utc(utc(utc(utc(utc(utc(utc(utc(s => [\"2000-10-10T13:55:36.000-07:00\"] => Syntax at 68
+s1=utc(utc(utc(utc(utc(utc(utc(utc(utc(utc(utc(utc(utc(utc(utc(utc(se => [\"2000-10-10T13:55:36.000-07:00\"] => Syntax at 68
+s1=utc(utc(utc(utc(utc(utc(utc(utc(utc(utc(utc(utc(utc(utc(utc(utc(utc => [\"2000-10-10T13:55:36.000-07:00\"] => Syntax at 67
+s1=utc(utc(utc(utc(utc(utc(utc(utc(utc(utc(utc(utc(utc(utc(utc(utc(- => [\"2000-10-10T13:55:36.000-07:00\"] => Syntax at 68
+s1=utc(utc(utc(utc(utc(utc(utc(utc(utc(utc(utc(utc(utc(utc(utc(utc(\" => [\"2000-10-10T13:55:36.000-07:00\"] => Syntax at 68
+s1=utc(utc(utc(utc(utc(utc(utc(utc(utc(utc(utc(utc(utc(utc(utc(se => [\"2000-10-10T13:55:36.000-07:00\"] => Syntax at 65
+s1=or(s1,or(s1,or(s1,or(s1,or(s1,or(s1,or(s1,or(s1,or(s1,or(s1,or(s1,or(s1,or(s1,or(s1,or(s1,or(s1,-)))))))))))))))) => [\"2000-10-10T13:55:36.000-07:00\"] => [10/Oct/2000:13:55:36 -0700]
+s1=or(s1,or(s1,or(s1,or(s1,or(s1,or(s1,or(s1,or(s1,or(s1,or(s1,or(s1,or(s1,or(s1,or(s1,or(s1,or(s1,or(s1,-))))))))))))))))) => [\"2000-10-10T13:55:36.000-07:00\"] => Syntax at 99
+s1=or(or(or(or(or(or(or(or(or(or(or(or(or(or(or(or(s1,-),-),-),-),-),-),-),-),-),-),-),-),-),-),-),-) => [\"2000-10-10T13:55:36.000-07:00\"] => [10/Oct/2000:13:55:36 -0700]
+s1=or(or(or(or(or(or(or(or(or(or(or(or(or(or(or(or(or(s1,-),-),-),-),-),-),-),-),-),-),-),-),-),-),-),-),-) => [\"2000-10-10T13:55:36.000-07:00\"] => Syntax at 51
+s1=or(-,or(s1,or(-,or(s1,or(-,or(s1,or(-,or(s1,or(-,or(s1,or(-,or(s1,or(-,or(s1,or(-,or(s1,s1)))))))))))))))) => [\"2000-10-10T13:55:36.000-07:00\"] => [10/Oct/2000:13:55:36 -0700]
+s1=or(-,or(s1,or(-,or(s1,or(-,or(s1,or(-,or(s1,or(-,or(s1,or(-,or(s1,or(-,or(s1,or(-,or(s1,sec(s1))))))))))))))))) => [\"2000-10-10T13:55:36.000-07:00\"] => Syntax at 92
+s1=or(utc(utc(utc(utc(utc(utc(utc(utc(utc(utc(utc(utc(utc(utc(utc(s1))))))))))))))),sec(sec(sec(sec(sec(sec(sec(sec(sec(sec(sec(sec(sec(sec(sec(s1)))))))))))))))) => [\"2000-10-10T13:55:36.000-07:00\"] => [10/Oct/2000:20:55:36 +0000]
+s1=or(utc(utc(utc(utc(utc(utc(utc(utc(utc(utc(utc(utc(utc(utc(utc(s1))))))))))))))),sec(sec(sec(sec(sec(sec(sec(sec(sec(sec(sec(sec(sec(sec(sec(sec(s1))))))))))))))))) => [\"2000-10-10T13:55:36.000-07:00\"] => Syntax at 145
+s1=epoch(utc(utc(utc(utc(utc(utc(utc(utc(utc(utc(utc(utc(utc(utc(utc(s1)))))))))))))))) => [\"2000-10-10T13:55:36.000-07:00\"] => Untyped s1
+s1=epoch(utc(utc(utc(utc(utc(utc(utc(utc(utc(utc(utc(utc(utc(utc(utc(utc(s1))))))))))))))))) => [\"2000-10-10T13:55:36.000-07:00\"] => Syntax at 69",
     )
 }

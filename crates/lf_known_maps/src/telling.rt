@@ -130,3 +130,98 @@ pub(crate) fn check_places(
     }
     Ok(())
 }
+
+/// Each row is an expression, an arrow, and what is told of it for the target's slot, on one record.
+pub(crate) fn check_values(
+    rt: &impl Abort,
+    alloc: Global,
+    target: &Side,
+    rows: &str,
+) -> Result<(), Fail> {
+    let source = Side {
+        front: Front::Apache,
+        text: "%t %r %B",
+    };
+    let json = "[\"9999-12-31T23:30:00.000-01:00\",\"GET /a\",512]";
+    for row in rows.lines() {
+        let (expr, wanted) = row.split_once(" => ").ok_or("no arrow")?;
+        let map = format!(in alloc; "s1={expr}")?;
+        let told = told(alloc, &source, target, map.as_str(), json)?;
+        assert_eq!(rt; told.as_str(), wanted, "{expr}");
+    }
+    Ok(())
+}
+
+/// A format with one slot of the kind of the letter.
+fn slot_of(kind: char) -> Side<'static> {
+    match kind {
+        'd' => Side {
+            front: Front::W3c,
+            text: "date",
+        },
+        'c' => Side {
+            front: Front::W3c,
+            text: "time",
+        },
+        't' => Side {
+            front: Front::Apache,
+            text: "%r",
+        },
+        'n' => Side {
+            front: Front::Apache,
+            text: "%B",
+        },
+        _ => Side {
+            front: Front::Apache,
+            text: "%t",
+        },
+    }
+}
+
+/// Whether the map gives a slot of the target what it takes.
+fn is_typed(alloc: Global, map: &str, target: &Side) -> Result<bool, Fail> {
+    if MOST_TEXT_BYTES < map.len() || MOST_TEXT_BYTES < target.text.len() {
+        return Err("a text is too long".into());
+    }
+    let from = parse(alloc, Front::W3c, "date time cs-method sc-status")
+        .ok()
+        .ok_or("no source")?;
+    let to = parse(alloc, target.front, target.text)
+        .ok()
+        .ok_or("no target")?;
+    match parse_map(alloc, map, &from, &to) {
+        Ok(_) => Ok(true),
+        Err(MapFault::Untyped(1)) => Ok(false),
+        Err(_) => Err("another fault".into()),
+    }
+}
+
+/// The letters of the kinds of which the expression is: day, clock, text, number, moment; or `.` for none.
+fn kinds_text(alloc: Global, expr: &str) -> Result<String, Fail> {
+    let map = format!(in alloc; "s1={expr}")?;
+    let mut kinds = String::new(alloc);
+    for kind in "dctnm".chars() {
+        if is_typed(alloc, map.as_str(), &slot_of(kind))? {
+            kinds.push(kind)?;
+        }
+    }
+    if kinds.is_empty() {
+        kinds.push('.')?;
+    }
+    Ok(kinds)
+}
+
+/// Each row is an expression with a `_`, an arrow, and of which kinds it is with each of eight expressions there.
+pub(crate) fn check_kinds(rt: &impl Abort, alloc: Global, rows: &str) -> Result<(), Fail> {
+    for row in rows.lines() {
+        let (call, wanted) = row.split_once(" => ").ok_or("no arrow")?;
+        let (front, back) = call.split_once("_").ok_or("no place")?;
+        let arguments = "s1 s2 s3 s4 at(s1,s2) - 5 \"x\"".split(' ');
+        for (argument, wanted) in arguments.zip(wanted.split(' ')) {
+            let expr = format!(in alloc; "{front}{argument}{back}")?;
+            let kinds = kinds_text(alloc, expr.as_str())?;
+            assert_eq!(rt; kinds.as_str(), wanted, "{expr}");
+        }
+    }
+    Ok(())
+}

@@ -1,6 +1,6 @@
 -- A text has an answer, and only one.
-use Rattle.std.proofs.Common.{◌≡◌, ℕ, ◌⊎◌, inl, inr, Bool, List, [], ◌∷◌, length, refl, sym, ap, subst, ◌∙◌}
-use Rattle.std.specs.Prelude.{Option, None, Some, Result, Ok, Err}
+use Rattle.std.proofs.Common.{◌≡◌, ℕ, ◌⊎◌, inl, inr, List, [], ◌∷◌, refl, sym, ap, ◌∙◌}
+use Rattle.std.specs.Prelude.{Option, None, Some, Err}
 use Rattle.lf_syntax.specs.Grammar.{Each}
 use Rattle.lf_syntax.specs.Places.{FaultPlace}
 use Rattle.lf_syntax.specs.PlaceLaws.{one_place}
@@ -9,7 +9,7 @@ use Rattle.lf_map.specs.declared.fault.MapFault.{MapFault}
 use Rattle.lf_map.specs.declared.fault.MapFault.TheVariants.{Syntax}
 use Rattle.lf_map.specs.Map.{IsAssign, IsMap}
 use Rattle.lf_map.specs.Letters.{parts_of}
-use Rattle.lf_map.specs.Filling.{Answer, Form, NoAssign, HasFault, IsFine, part_fault, form_after, first_blank, finished, Reads}
+use Rattle.lf_map.specs.Filling.{Answer, Form, HasFault, IsFine, part_fault, form_after, first_blank, finished, Reads}
 use Rattle.lf_map.proofs.Leading.{map_parts}
 
 fault_in : MapFault → Option MapFault → MapFault

@@ -1,9 +1,9 @@
 -- What is read of a call.
 use Rattle.std.proofs.Common.{◌≡◌, ℕ, zero, suc, ◌-◌, Bool, true, false, cond, List, drop, refl, sym, ap, ◌∙◌, arith}
-use Rattle.std.specs.Prelude.{Option, None, Some, codes}
+use Rattle.std.specs.Prelude.{Option, None, codes}
 use Rattle.std.specs.Str.{bytes_eq}
 use Rattle.lf_syntax.specs.Cuts.{front_of, from_first}
-use Rattle.lf_map.specs.Exprs.{or_else, at_time}
+use Rattle.lf_expression.specs.Exprs.{or_else, at_time}
 use Rattle.lf_map.specs.Assigns.{Read, paired, line_call, one_call, read_next, call_by, plain_read, plain_or, expr_read}
 
 one_more : (d : ℕ) → (d ≡ 0 → ⊥) → d ≡ suc (d - 1)

@@ -1,12 +1,12 @@
 -- The fault of an assignment of which all but the kind is good.
-use Rattle.std.proofs.Common.{◌≡◌, ℕ, Bool, true, false, cond, List, length, sym, ap, ◌∙◌}
+use Rattle.std.proofs.Common.{◌≡◌, ℕ, Bool, false, cond, List, length, ap, ◌∙◌}
 use Rattle.std.specs.Prelude.{Option, None, Some}
 use Rattle.lf_format.specs.declared.slot.Slot.{Slot as OneSlot}
 use Rattle.lf_format.specs.Kinds.{value_kind}
+use Rattle.lf_expression.specs.Exprs.{Expr}
+use Rattle.lf_expression.specs.Kinds.{has_kind}
+use Rattle.lf_expression.specs.Values.{nth}
 use Rattle.lf_map.specs.declared.fault.MapFault.TheVariants.{Twice, Untyped}
-use Rattle.lf_map.specs.Exprs.{Expr}
-use Rattle.lf_map.specs.Kinds.{has_kind}
-use Rattle.lf_map.specs.Values.{nth}
 use Rattle.lf_map.specs.Filling.{Form, first_stray, is_given, kind_fault, given_fault, stray_fault, target_fault, assign_fault}
 
 pub checked : (source target : List OneSlot) (form : Form) (k : ℕ) (e : Expr) (slot : OneSlot) (b : Bool) → nth k target ≡ Some slot → first_stray (length source) e ≡ None

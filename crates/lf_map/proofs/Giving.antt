@@ -1,16 +1,15 @@
 -- An expression that is given to its slot.
-use Rattle.std.proofs.Common.{◌≡◌, ℕ, zero, suc, ◌-◌, ◌<◌, ◌≤◌, List, [], ◌∷◌, length, refl, sym, ap, ◌∙◌, arith}
+use Rattle.std.proofs.Common.{◌≡◌, ℕ, zero, suc, ◌-◌, ◌≤◌, List, length, refl, ap, ◌∙◌, arith}
 use Rattle.std.specs.Prelude.{Option, None, Some}
 use Rattle.std.proofs.Math.ListN.{set}
 use Rattle.std.proofs.lemmas.Option.{slice_get_within}
 use Rattle.lf_format.specs.declared.slot.Slot.{Slot as OneSlot}
-use Rattle.lf_map.specs.declared.fault.MapFault.{MapFault}
-use Rattle.lf_map.specs.declared.expr.Expr.{Expr as CodeExpr}
-use Rattle.lf_map.specs.Exprs.{Expr, expr_said}
+use Rattle.lf_expression.specs.declared.expr.Expr.{Expr as CodeExpr}
+use Rattle.lf_expression.specs.Exprs.{Expr, expr_said}
+use Rattle.lf_expression.specs.Values.{nth}
 use Rattle.lf_map.specs.Assigns.{target_of, expr_of}
-use Rattle.lf_map.specs.Values.{nth}
 use Rattle.lf_map.specs.Forms.{form_said}
-use Rattle.lf_map.specs.Filling.{Form, put, given, target_fault, assign_fault, part_fault, form_after}
+use Rattle.lf_map.specs.Filling.{Form, put, target_fault, assign_fault, part_fault, form_after}
 use Rattle.lf_map.proofs.Grown.{form_put}
 
 nth_within : {A : Type 0} (xs : List A) (k : ℕ) (x : A) → nth k xs ≡ Some x → (1 ≤ k) × (k ≤ length xs)

@@ -1,11 +1,11 @@
 -- Forms that grow and are filled, and numbers that are cut off at their limit.
-use Rattle.std.proofs.Common.{◌≡◌, ℕ, zero, suc, ◌+◌, ◌-◌, ◌*◌, ◌≤◌, length-append, take, drop, Bool, true, false, cond, min, List, [], ◌∷◌, ◌++◌, length, refl, sym, ap, subst, ◌∙◌, add-one, arith}
-use Rattle.std.specs.Prelude.{Option, None, Some, slice_get}
+use Rattle.std.proofs.Common.{◌≡◌, ℕ, zero, suc, ◌+◌, ◌-◌, ◌*◌, ◌≤◌, length-append, take, drop, Bool, true, false, cond, min, List, [], ◌∷◌, ◌++◌, length, refl, sym, ap, ◌∙◌, add-one, arith}
+use Rattle.std.specs.Prelude.{Option, None, Some}
 use Rattle.std.proofs.Math.ListN.{set}
 use Rattle.std.proofs.lemmas.List.{length-take, length-drop}
 use Rattle.lf_syntax.specs.Leaf.{is_within}
-use Rattle.lf_map.specs.declared.expr.Expr.{Expr as CodeExpr}
-use Rattle.lf_map.specs.Exprs.{Expr, expr_said, exprs_said}
+use Rattle.lf_expression.specs.declared.expr.Expr.{Expr as CodeExpr}
+use Rattle.lf_expression.specs.Exprs.{Expr, expr_said, exprs_said}
 use Rattle.lf_map.specs.Letters.{digits_from}
 use Rattle.lf_map.specs.Filling.{Form, blank, put, all_given}
 use Rattle.lf_map.specs.Forms.{given_said, form_said}

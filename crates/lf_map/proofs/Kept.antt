@@ -1,19 +1,19 @@
 -- The expressions of a map have their slots' kinds, and a map is the one answer of its text.
 use Rattle.std.proofs.Common.{◌≡◌, ℕ, zero, suc, ◌+◌, ◌-◌, inl, inr, Bool, true, false, cond, List, [], ◌∷◌, length, refl, sym, ap, subst, ◌∙◌, arith}
-use Rattle.std.specs.Prelude.{Option, None, Some, Result, Ok, Err, slice_get}
+use Rattle.std.specs.Prelude.{Option, None, Some, Ok, Err, slice_get}
 use Rattle.lf_format.specs.declared.slot.Slot.{Slot as OneSlot}
 use Rattle.lf_format.specs.Kinds.{value_kind}
 use Rattle.lf_format.specs.Keeps.{slots_in}
 use Rattle.lf_format.specs.Shape.{Shape}
+use Rattle.lf_expression.specs.Exprs.{Expr, exprs_said}
+use Rattle.lf_expression.specs.Kinds.{has_kind}
+use Rattle.lf_expression.specs.Values.{nth}
 use Rattle.lf_map.specs.declared.fault.MapFault.{MapFault}
 use Rattle.lf_map.specs.declared.fault.MapFault.TheVariants.{Syntax, NoSlot, Twice, Untyped, Unfilled, OutOfMemory}
-use Rattle.lf_map.specs.Exprs.{Expr, exprs_said}
 use Rattle.lf_map.specs.Assigns.{target_of, expr_of}
-use Rattle.lf_map.specs.Kinds.{has_kind}
-use Rattle.lf_map.specs.Values.{nth}
 use Rattle.lf_map.specs.Letters.{parts_of}
 use Rattle.lf_map.specs.Shape.{MapShape, AreKinded}
-use Rattle.lf_map.specs.Filling.{Answer, Form, IsSo, IsMapOf, Gives, ParsesMap, blank, put, is_given, first_stray, kind_fault, given_fault, stray_fault, target_fault, assign_fault, part_fault, form_after, first_blank, all_given, finished, Reads}
+use Rattle.lf_map.specs.Filling.{Answer, Form, IsSo, IsMapOf, Gives, ParsesMap, blank, put, is_given, first_stray, kind_fault, given_fault, stray_fault, target_fault, form_after, first_blank, all_given, finished, Reads}
 use Rattle.lf_map.proofs.Answered.{answer_one}
 
 module _ (source : List OneSlot) where

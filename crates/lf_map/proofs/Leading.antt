@@ -1,14 +1,13 @@
 -- A map is cut at each `;` outside of its strings into its assignments.
-use Rattle.std.proofs.Common.{◌≡◌, ℕ, zero, suc, ◌≤◌, inl, inr, ◌&&◌, eqb, Bool, true, false, cond, List, [], ◌∷◌, ◌++◌, refl, sym, ap, subst, ◌∙◌, append-nil, append_assoc, arith}
+use Rattle.std.proofs.Common.{◌≡◌, ℕ, zero, suc, ◌≤◌, inl, inr, ◌&&◌, eqb, Bool, true, false, cond, List, [], ◌∷◌, ◌++◌, refl, sym, ap, subst, ◌∙◌, append_assoc, arith}
 use Rattle.std.proofs.lemmas.Bool.Decides.{nat_tests}
 use Rattle.std.specs.Prelude.{codes}
 use Rattle.lf_limits.specs.Limits.{most_nesting}
 use Rattle.lf_syntax.specs.declared.leaf.Leaf.{Leaf}
-use Rattle.lf_syntax.specs.declared.leaf.Leaf.TheVariants.{Within, Number}
-use Rattle.lf_syntax.specs.Leaf.{Holds}
+use Rattle.lf_syntax.specs.declared.leaf.Leaf.TheVariants.{Number}
 use Rattle.lf_syntax.specs.LeafLaws.{first_of_both, second_of_both}
 use Rattle.lf_syntax.specs.Grammar.{Grammar, leaf, sequence, choice, star, again, word, joined, Each, Spells, Nested}
-use Rattle.lf_syntax.specs.Cuts.{leaf_avoids, onto_first, separated}
+use Rattle.lf_syntax.specs.Cuts.{leaf_avoids, onto_first}
 use Rattle.lf_syntax.specs.CutLaws.{Free, leaf-free}
 use Rattle.lf_map.specs.declared.parts.Mode.{Mode}
 use Rattle.lf_map.specs.declared.parts.Mode.TheVariants.{Outside, Inside, Escaped}

@@ -1,9 +1,5 @@
-pub mod Cutting
-pub mod Times
-pub mod Spaces
 pub mod Leading
 pub mod Records
-pub mod Kinded
 pub mod Parted
 pub mod Answered
 pub mod Steps

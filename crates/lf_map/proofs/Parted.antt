@@ -1,12 +1,12 @@
 -- The first part of a text, and its other parts.
-use Rattle.std.proofs.Common.{◌≡◌, ℕ, ◌+◌, ◌<◌, ◌≤◌, Bool, cond, true, false, List, [], ◌∷◌, ◌++◌, length, get_or, take, drop, refl, sym, ap, ◌∙◌, append-nil, append_assoc, length-append, arith}
+use Rattle.std.proofs.Common.{◌≡◌, ℕ, ◌+◌, ◌<◌, Bool, cond, true, false, List, [], ◌∷◌, ◌++◌, length, get_or, take, drop, refl, sym, ap, ◌∙◌, append-nil, append_assoc}
 use Rattle.std.proofs.lemmas.List.{take_more}
 use Rattle.std.proofs.Math.Seq.{drop-length}
 use Rattle.lf_syntax.specs.Cuts.{onto_first}
+use Rattle.lf_expression.proofs.Cutting.{drop-next}
 use Rattle.lf_map.specs.declared.parts.Mode.{Mode}
-use Rattle.lf_map.specs.declared.parts.Mode.TheVariants.{Outside, Inside, Escaped}
+use Rattle.lf_map.specs.declared.parts.Mode.TheVariants.{Outside}
 use Rattle.lf_map.specs.Letters.{mode_after, is_cut, parts_from, front_part, after_part}
-use Rattle.lf_map.proofs.Cutting.{drop-next}
 
 abbrev pub further_parts : List ℕ → List (List ℕ)
 further_parts [] = []

@@ -1,5 +1,5 @@
 -- What a record's values keep, and what is filled.
-use Rattle.std.proofs.Common.{◌≡◌, ℕ, ◌+◌, ◌<◌, inl, inr, Bool, true, false, List, [], ◌∷◌, ◌++◌, length, refl, sym, ap, subst, ◌∙◌, append-nil, append_assoc, arith}
+use Rattle.std.proofs.Common.{◌≡◌, ℕ, suc, ◌+◌, ◌<◌, inl, inr, Bool, true, false, List, [], ◌∷◌, ◌++◌, length, refl, sym, ap, subst, ◌∙◌, append-nil, append_assoc, arith}
 use Rattle.std.specs.Prelude.{All, ℤ, Option, None, Some}
 use Rattle.std.proofs.lemmas.List.Elements.{All-nil, All-cons}
 use Rattle.lf_core.specs.declared.values.Moment.{Moment}
@@ -16,13 +16,14 @@ use Rattle.lf_format.specs.Kinds.{HoldsKind}
 use Rattle.lf_format.specs.Slots.{Holds}
 use Rattle.lf_format.specs.Lines.{IsRecordOf}
 use Rattle.lf_format.specs.Keeps.{slots_in}
-use Rattle.lf_map.specs.declared.expr.Expr.{Expr as CodeExpr}
+use Rattle.lf_format.proofs.Deciding.{holds_decided}
+use Rattle.lf_expression.specs.declared.expr.Expr.{Expr as CodeExpr}
+use Rattle.lf_expression.specs.Answers.{IsDated}
+use Rattle.lf_expression.specs.Exprs.{Expr, exprs_said}
 use Rattle.lf_map.specs.declared.mapping.Mapped.{Mapped}
 use Rattle.lf_map.specs.declared.mapping.Mapped.TheVariants.{Rec, Unmapped}
-use Rattle.lf_map.specs.Answers.{IsDated, IsPushed}
-use Rattle.lf_map.specs.Exprs.{Expr, exprs_said}
 use Rattle.lf_map.specs.Shape.{MapShape, AreKinded}
-use Rattle.lf_map.specs.Mapped.{Fills, IsMapped, IsOfTarget, mapped_record}
+use Rattle.lf_map.specs.Mapped.{IsPushed, Fills, Makes, IsMapped, IsOfTarget, mapped_record}
 
 moment_dated : (k : Kind) (m : Moment) → HoldsKind k (value.Moment m) → IsMoment m
 moment_dated (kind.Clf d) m h = h.0
@@ -105,8 +106,28 @@ filled_one k (Slot slot ∷ pieces) (Some v ∷ values) done one other (inl h) (
 filled_one k (Slot slot ∷ pieces) (Some v ∷ values) done one other (inr h) (inl e) = absurd (h.0 e.0)
 filled_one k (Slot slot ∷ pieces) (Some v ∷ values) done one other (inr h) (inr e) = h.1 ∙ sym e.1
 
-pub mapped_one : (map : MapShape) (rec : List Value) (one other : Mapped) → IsMapped map rec one → IsMapped map rec other → one ≡ other
-mapped_one map rec one other h e = filled_one 1 map.target.pieces (mapped_record (exprs_said map.exprs) rec) [] one other h e
+pub mapped_one : (target : List Piece) (exprs : List Expr) (rec : List Value) (one other : Mapped) → Makes target exprs rec one → Makes target exprs rec other → one ≡ other
+mapped_one target exprs rec one other h e = filled_one 1 target (mapped_record exprs rec) [] one other h e
+
+-- ---- and something
+
+mapped_length : (exprs : List Expr) (rec : List Value) → length (mapped_record exprs rec) ≡ length exprs
+mapped_length [] rec = refl
+mapped_length (e ∷ es) rec = ap suc (mapped_length es rec)
+
+filled_some : (k : ℕ) (pieces : List Piece) (values : List (Option Value)) (done : List Value) → length values ≡ length (slots_in pieces) → (answer : Mapped) × Fills k pieces values done answer
+filled_some k [] values done e = (Rec done, refl)
+filled_some k (Literal text ∷ pieces) values done e = filled_some k pieces values done e
+filled_some k (Slot slot ∷ pieces) [] done e = absurd (omega (arith, e))
+filled_some k (Slot slot ∷ pieces) (None ∷ values) done e = (Unmapped k, refl)
+filled_some k (Slot slot ∷ pieces) (Some v ∷ values) done e = elim (holds_decided slot v) [
+  | inl held ↦ let more = filled_some (k + 1) pieces values (done ++ v ∷ []) (omega (arith, e)) in (more.0, inl (held, more.1))
+  | inr unheld ↦ (Unmapped k, inr (unheld, refl))
+]
+
+pub mapped_some : (source slots : List OneSlot) (target : List Piece) (exprs : List Expr) (rec : List Value) → slots ≡ slots_in target → AreKinded source slots exprs → (answer : Mapped) × Makes target exprs rec answer
+mapped_some source slots target exprs rec same kinded =
+    filled_some 1 target (mapped_record exprs rec) [] (mapped_length exprs rec ∙ kinded_length source slots exprs kinded ∙ ap length same)
 
 -- what is left of the pieces has as many slots as what is left of the expressions
 pub count_literal : (pieces : List Piece) (one : Piece) (more : List Piece) (text : List ℕ) (n : ℕ) → pieces ≡ one ∷ more → one ≡ Literal text → n ≡ length (slots_in pieces) → n ≡ length (slots_in more)

@@ -1,13 +1,13 @@
 -- The parts of a text, one after another.
 use Rattle.std.proofs.Common.{◌≡◌, ℕ, ◌+◌, ◌<◌, ◌≤◌, inl, inr, List, [], ◌∷◌, ◌++◌, length, refl, sym, ap, subst, ◌∙◌, length-append, arith}
-use Rattle.std.specs.Prelude.{Option, None, Some, Result, Ok, Err}
+use Rattle.std.specs.Prelude.{Some, Err}
 use Rattle.lf_syntax.specs.Grammar.{Each}
 use Rattle.lf_format.specs.declared.slot.Slot.{Slot as OneSlot}
 use Rattle.lf_map.specs.declared.fault.MapFault.{MapFault}
 use Rattle.lf_map.specs.declared.fault.MapFault.TheVariants.{Syntax, NoSlot, Twice, Untyped, Unfilled, OutOfMemory}
 use Rattle.lf_map.specs.declared.parts.Mode.TheVariants.{Outside}
 use Rattle.lf_map.specs.Map.{IsAssign, IsMap}
-use Rattle.lf_map.specs.Letters.{parts_of, parts_from, front_part, after_part}
+use Rattle.lf_map.specs.Letters.{parts_of, front_part, after_part}
 use Rattle.lf_map.specs.Filling.{Answer, Form, IsSo, IsPartFault, IsFine, part_fault, form_after, first_blank, finished, Reads}
 use Rattle.lf_map.proofs.Leading.{map_parts}
 use Rattle.lf_map.proofs.Parted.{further_parts, parts-front, front-after}
@@ -20,10 +20,6 @@ pub record Going (source target : List OneSlot) (text : List ℕ) (start form : 
 
 pub begin : (source target : List OneSlot) (text : List ℕ) (start : Form) → Going source target text start start text
 begin source target text start = record { carry = λ answer h. h; each = λ h. h; shorter = omega arith }
-
-pub nothing_left : (w : List ℕ) → length w ≡ 0 → w ≡ []
-nothing_left [] e = refl
-nothing_left (x ∷ w) e = absurd (omega (arith, e))
 
 module _ (source target : List OneSlot) (text : List ℕ) (start form : Form) (rest : List ℕ) (g : Going source target text start form rest) (part more : List ℕ) (p : part ≡ front_part Outside rest) (m : more ≡ after_part Outside rest) where
   parts_are : parts_of rest ≡ part ∷ further_parts more

@@ -1,6 +1,6 @@
 -- A part that is an assignment or none, as the scan of it says.
 use Rattle.std.proofs.Common.{◌≡◌, ℕ, inl, inr, List, sym, subst}
-use Rattle.std.specs.Prelude.{Option, None, Some, Result, Ok, Err, OnOk, IfErr}
+use Rattle.std.specs.Prelude.{None, Some, Result, Ok, Err, OnOk, IfErr}
 use Rattle.lf_limits.specs.Limits.{most_nesting}
 use Rattle.lf_syntax.specs.Grammar.{Grammar, NestedSentence}
 use Rattle.lf_syntax.specs.Places.{FaultPlace}
@@ -10,7 +10,7 @@ use Rattle.lf_syntax.specs.declared.scan.ScanFault.TheVariants as scan
 use Rattle.lf_format.specs.declared.slot.Slot.{Slot as OneSlot}
 use Rattle.lf_map.specs.declared.fault.MapFault.{MapFault}
 use Rattle.lf_map.specs.declared.fault.MapFault.TheVariants.{Syntax, NoSlot, Twice, Untyped, Unfilled, OutOfMemory}
-use Rattle.lf_map.specs.Map.{call, assign, IsAssign, IsMap}
+use Rattle.lf_map.specs.Map.{call, assign, IsAssign}
 use Rattle.lf_map.specs.Filling.{Form, IsSo, IsPlace, IsPartFault, IsFine, part_fault}
 
 pub cause_at : (L : List ℕ → Type 0) (w : List ℕ) (fault : ScanFault) (p : ℕ) → fault ≡ scan.Syntax p → IsCause L w fault → FaultPlace L w p

@@ -4,8 +4,8 @@ use Rattle.std.specs.Str.{bytes_eq}
 use Rattle.lf_limits.specs.Limits.{most_nesting}
 use Rattle.lf_syntax.specs.Leaf.{is_within}
 use Rattle.lf_syntax.specs.Cuts.{front_of, from_first}
+use Rattle.lf_expression.specs.Exprs.{Expr, missing, number, text, slot, or_else, at_time, spaced, applied, Operation, utc, zoned, whole_second, date, clock, epoch, millis, part, div, mul}
 use Rattle.lf_map.specs.declared.strings.Stage.TheVariants.{Fresh}
-use Rattle.lf_map.specs.Exprs.{Expr, missing, number, text, slot, or_else, at_time, spaced, applied, Operation, utc, zoned, whole_second, date, clock, epoch, millis, part, div, mul}
 use Rattle.lf_map.specs.Letters.{number_of, after_digits, int_of, divisor_of, offset_of, letters_of, after_string}
 
 -- an expression that a text begins with, and what follows it

@@ -1,18 +1,18 @@
 -- The field map that a text is, or its first fault.
-use Rattle.std.specs.Prelude.{◌≡◌, ℕ, zero, suc, ◌+◌, ◌-◌, ◌==◌, ◌≤◌, ◌&&◌, ◌⊎◌, nat_le, not, Bool, true, false, cond, List, [], ◌∷◌, length, Option, None, Some, Result, Ok, Err}
+use Rattle.std.specs.Prelude.{◌≡◌, ℕ, zero, suc, ◌+◌, ◌-◌, ◌&&◌, ◌⊎◌, nat_le, Bool, true, false, cond, List, [], ◌∷◌, length, Option, None, Some, Result, Ok, Err}
 use Rattle.lf_syntax.specs.Places.{FaultPlace}
 use Rattle.lf_format.specs.declared.slot.Slot.{Slot as OneSlot}
 use Rattle.lf_format.specs.Kinds.{value_kind}
 use Rattle.lf_format.specs.Keeps.{slots_in}
 use Rattle.lf_format.specs.Shape.{Shape}
+use Rattle.lf_expression.specs.Exprs.{Expr, slot, or_else, at_time, spaced, applied, exprs_said}
+use Rattle.lf_expression.specs.Values.{nth}
+use Rattle.lf_expression.specs.Kinds.{has_kind}
 use Rattle.lf_map.specs.declared.fault.MapFault.{MapFault}
 use Rattle.lf_map.specs.declared.fault.MapFault.TheVariants.{Syntax, NoSlot, Twice, Untyped, Unfilled, OutOfMemory}
 use Rattle.lf_map.specs.Map.{IsAssign, IsMap}
-use Rattle.lf_map.specs.Exprs.{Expr, slot, or_else, at_time, spaced, applied, exprs_said}
 use Rattle.lf_map.specs.Letters.{parts_of}
 use Rattle.lf_map.specs.Assigns.{target_of, expr_of}
-use Rattle.lf_map.specs.Values.{nth}
-use Rattle.lf_map.specs.Kinds.{has_kind}
 use Rattle.lf_map.specs.Shape.{MapShape}
 
 -- a number of each of these slots, counted from 1

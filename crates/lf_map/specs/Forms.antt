@@ -1,7 +1,7 @@
 -- The form that the code's form is.
 use Rattle.std.specs.Prelude.{List, [], ◌∷◌, Option, None, Some}
-use Rattle.lf_map.specs.declared.expr.Expr.{Expr as CodeExpr}
-use Rattle.lf_map.specs.Exprs.{Expr, expr_said}
+use Rattle.lf_expression.specs.declared.expr.Expr.{Expr as CodeExpr}
+use Rattle.lf_expression.specs.Exprs.{Expr, expr_said}
 use Rattle.lf_map.specs.Filling.{Form}
 
 abbrev pub given_said : Option CodeExpr → Option Expr

@@ -1,5 +1,5 @@
 -- What the texts of strings and numbers say, and where a text is cut into assignments.
-use Rattle.std.specs.Prelude.{ℕ, zero, suc, ◌+◌, ◌-◌, ◌*◌, ◌/◌, ◌%◌, ◌==◌, ◌&&◌, Bool, false, cond, min, max, ℤ, pos, neg_ℤ, List, [], ◌∷◌, Option, None, Some}
+use Rattle.std.specs.Prelude.{ℕ, ◌+◌, ◌-◌, ◌*◌, ◌/◌, ◌%◌, ◌==◌, Bool, false, cond, min, max, ℤ, pos, neg_ℤ, List, [], ◌∷◌, Option, None, Some}
 use Rattle.lf_syntax.specs.Leaf.{is_within, hex_value}
 use Rattle.lf_syntax.specs.Cuts.{onto_first}
 use Rattle.lf_map.specs.declared.strings.Stage.{Stage}

@@ -1,12 +1,8 @@
 pub mod Map
-pub mod Exprs
 pub mod Letters
 pub mod Assigns
-pub mod Values
-pub mod Kinds
 pub mod Shape
 pub mod Filling
 pub mod Mapped
 pub mod Said
 pub mod Forms
-pub mod Answers

@@ -1,7 +1,7 @@
 -- The reading that the code's reading is.
 use Rattle.std.specs.Prelude.{Option, None, Some}
+use Rattle.lf_expression.specs.Exprs.{expr_said}
 use Rattle.lf_map.specs.declared.reading.Read.{Read as CodeRead}
-use Rattle.lf_map.specs.Exprs.{expr_said}
 use Rattle.lf_map.specs.Assigns.{Read}
 
 abbrev pub read_said : CodeRead → Read

@@ -1,12 +1,12 @@
 -- What contracts see of a field map: an expression for each slot of the target.
-use Rattle.std.specs.Prelude.{◌≡◌, true, List, [], ◌∷◌, ◌&&◌, Bool, false}
+use Rattle.std.specs.Prelude.{◌≡◌, true, List, [], ◌∷◌}
 use Rattle.lf_format.specs.Shape.{Shape}
 use Rattle.lf_format.specs.Keeps.{slots_in}
 use Rattle.lf_format.specs.Kinds.{value_kind}
 use Rattle.lf_format.specs.declared.slot.Slot.{Slot as OneSlot}
-use Rattle.lf_map.specs.declared.expr.Expr.{Expr as CodeExpr}
-use Rattle.lf_map.specs.Exprs.{Expr, exprs_said}
-use Rattle.lf_map.specs.Kinds.{has_kind}
+use Rattle.lf_expression.specs.declared.expr.Expr.{Expr as CodeExpr}
+use Rattle.lf_expression.specs.Exprs.{Expr, exprs_said}
+use Rattle.lf_expression.specs.Kinds.{has_kind}
 
 pub record MapShape : Type 0 where
   pub source : Shape

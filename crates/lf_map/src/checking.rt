@@ -2,15 +2,14 @@
 
 ghost use Rattle.std.specs.Prelude.{◌≡◌, Some};
 ghost use Rattle.lf_format.specs.Keeps.{slots_in};
-ghost use Rattle.lf_map.specs.Exprs.{expr_said};
-ghost use Rattle.lf_map.specs.Values.{nth};
+ghost use Rattle.lf_expression.specs.Exprs.{expr_said};
+ghost use Rattle.lf_expression.specs.Values.{nth};
 ghost use Rattle.lf_map.specs.Filling.{first_stray, assign_fault, is_given};
 ghost use Rattle.lf_map.specs.Forms.{form_said, given_said};
 
-use crate::expr::Expr;
 use crate::fault::MapFault;
-use crate::kinds::has_kind;
 use crate::reading::Assign;
+use lf_expression::{Expr, has_kind};
 use lf_format::Format;
 
 /// The first number of a source slot, from the left, that isn't one of so many slots.

@@ -1,6 +1,6 @@
 //! A field map.
 
-use crate::expr::Expr;
+use lf_expression::Expr;
 use lf_format::Format;
 use std::marker::Model;
 
@@ -14,7 +14,7 @@ pub struct FieldMap {
 
 impl Model for FieldMap {
     ghost use Rattle.lf_map.specs.Shape.{MapShape, KeepsMap};
-    ghost use Rattle.lf_map.specs.contracts.expr.Expr as expr;
+    ghost use Rattle.lf_expression.specs.contracts.expr.Expr as expr;
     ghost use Rattle.std.specs.Coded.{codes};
 
     ghost Value = { MapShape };

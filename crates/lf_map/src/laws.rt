@@ -1,20 +1,15 @@
 //! The laws of field maps.
 
-ghost use Rattle.std.specs.Prelude.{◌≡◌, ℕ, List, true};
+ghost use Rattle.std.specs.Prelude.{◌≡◌, ℕ, List, Ok};
 ghost use Rattle.lf_core.specs.declared.values.Value.{Value};
 ghost use Rattle.lf_format.specs.declared.format.Piece.{Piece};
-ghost use Rattle.lf_format.specs.declared.kind.ValueKind.{ValueKind};
 ghost use Rattle.lf_format.specs.declared.slot.Slot.{Slot};
-ghost use Rattle.lf_format.specs.Keeps.{slots_in};
-ghost use Rattle.lf_format.specs.Lines.{IsRecordOf};
+ghost use Rattle.lf_format.specs.Shape.{Shape};
+ghost use Rattle.lf_expression.specs.Exprs.{Expr};
 ghost use Rattle.lf_map.specs.declared.mapping.Mapped.{Mapped};
-ghost use Rattle.lf_map.specs.Exprs.{Expr};
-ghost use Rattle.lf_map.specs.Kinds.{has_kind, IsOfKind};
 ghost use Rattle.lf_map.specs.Letters.{parts_of};
-ghost use Rattle.lf_map.specs.Values.{expr_value};
-ghost use Rattle.lf_map.specs.Shape.{MapShape};
-ghost use Rattle.lf_map.specs.Filling.{Answer, Form, Reads};
-ghost use Rattle.lf_map.specs.Mapped.{IsMapped};
+ghost use Rattle.lf_map.specs.Filling.{Answer, Form, Reads, ParsesMap};
+ghost use Rattle.lf_map.specs.Mapped.{Makes};
 
 /// A text has an answer between any two formats, and only one.
 pub fn one_answer()
@@ -25,12 +20,12 @@ pub fn one_answer()
     lf_syntax::one_of_two();
 }
 
-/// A map makes at most one thing of a record.
+/// Expressions make at most one thing of a record.
 pub fn one_mapped()
-    ensures { (map : MapShape) (rec : List Value) (one other : Mapped) → IsMapped map rec one → IsMapped map rec other → one ≡ other }
+    ensures { (target : List Piece) (exprs : List Expr) (rec : List Value) (one other : Mapped) → Makes target exprs rec one → Makes target exprs rec other → one ≡ other }
 {}
 
-/// On a record of the source, an expression of a kind has no value of another.
-pub fn keeps_kinds()
-    ensures { (source : List Piece) (rec : List Value) (kind : ValueKind) (e : Expr) → IsRecordOf source rec → has_kind (slots_in source) kind e ≡ true → IsOfKind kind (expr_value e rec) }
+/// The expressions of a map's text make something of each record.
+pub fn some_mapped()
+    ensures { (text : List ℕ) (source target : Shape) (exprs : List Expr) → ParsesMap text source target (Ok exprs) → (rec : List Value) → (answer : Mapped) × Makes target.pieces exprs rec answer }
 {}

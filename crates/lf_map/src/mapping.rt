@@ -4,15 +4,14 @@ ghost use Rattle.std.specs.Prelude.{◌≡◌, ◌+◌, ◌≤◌, All, length, 
 ghost use Rattle.lf_limits.specs.Limits.{most_slots};
 ghost use Rattle.lf_format.specs.Keeps.{slots_in};
 ghost use Rattle.lf_format.specs.Lines.{IsRecordOf};
-ghost use Rattle.lf_map.specs.Answers.{IsDated, IsPushed};
-ghost use Rattle.lf_map.specs.Exprs.{expr_said, exprs_said};
-ghost use Rattle.lf_map.specs.Values.{expr_value};
-ghost use Rattle.lf_map.specs.Mapped.{mapped_record, Fills, IsMapped, IsOfTarget};
+ghost use Rattle.lf_expression.specs.Answers.{IsDated};
+ghost use Rattle.lf_expression.specs.Exprs.{expr_said, exprs_said};
+ghost use Rattle.lf_expression.specs.Values.{expr_value};
+ghost use Rattle.lf_map.specs.Mapped.{mapped_record, IsPushed, Fills, IsMapped, IsOfTarget};
 
-use crate::expr::Expr;
 use crate::field_map::FieldMap;
-use crate::values::expr_value;
 use lf_core::{OutOfMemory, Record, Value};
+use lf_expression::{Expr, expr_value};
 use lf_format::{Piece, Slot};
 use std::alloc::Global;
 
@@ -34,7 +33,7 @@ fn push_held(
     requires { All IsDated rec.now }
     ensures { IfOk result (λ held. IsPushed held slot.now (expr_value (expr_said expr.now) rec.now) done.old done.new) }
 {
-    let Some(value) = expr_value(alloc, expr, rec)?.into_value(alloc)? else {
+    let Some(value) = expr_value(alloc, expr, rec)? else {
         return Ok(false);
     };
     if !slot.holds(&value) {

@@ -4,7 +4,7 @@ ghost use Rattle.std.specs.Prelude.{◌≡◌, ◌<◌, ◌≤◌, ◌^◌, min,
 ghost use Rattle.lf_syntax.specs.Leaf.{is_within};
 ghost use Rattle.lf_map.specs.Letters.{digits_from, number_of, after_digits, int_of, divisor_of, minutes_of, offset_of};
 
-use crate::expr::{Divisor, Offset};
+use lf_expression::{Divisor, Offset};
 
 /// Whether the byte is a digit.
 pub(crate) fn is_digit(byte: u8) -> bool

@@ -4,19 +4,19 @@ ghost use Rattle.std.specs.Prelude.{◌≡◌, ◌+◌, ◌≤◌, ◌<◌, ◌^
 ghost use Rattle.lf_limits.specs.Limits.{most_slots, most_text_bytes};
 ghost use Rattle.lf_syntax.specs.Shape.{grammar};
 ghost use Rattle.lf_format.specs.Keeps.{slots_in};
+ghost use Rattle.lf_expression.specs.Exprs.{exprs_said};
 ghost use Rattle.lf_map.specs.Map.{call as call_grammar, assign as assign_grammar, IsAssign, IsMap};
-ghost use Rattle.lf_map.specs.Exprs.{exprs_said};
 ghost use Rattle.lf_map.specs.Letters.{parts_of};
 ghost use Rattle.lf_map.specs.Forms.{form_said, given_said};
 ghost use Rattle.lf_map.specs.Filling.{Answer, IsSo, IsPlace, IsPartFault, IsFine, part_fault, form_after, blank, first_blank, all_given, finished, Reads, ParsesMap, IsMapOf, Gives};
 
 use crate::checking::assign_fault;
-use crate::expr::Expr;
 use crate::fault::MapFault;
 use crate::field_map::FieldMap;
 use crate::grammar;
 use crate::parts::cut_part;
 use crate::reading::read_assign;
+use lf_expression::Expr;
 use lf_format::Format;
 use lf_limits::MOST_NESTING;
 use lf_syntax::{Grammar, ScanFault, scan_nested};

@@ -1,9 +1,11 @@
-//! The parts of a field map's text, and a text cut at a byte.
+//! The parts of a field map's text, and what comes after a byte of it.
 
 ghost use Rattle.std.specs.Prelude.{◌≡◌, ◌≤◌, drop, take, length};
-ghost use Rattle.lf_syntax.specs.Cuts.{front_of, from_first};
+ghost use Rattle.lf_syntax.specs.Cuts.{from_first};
 ghost use Rattle.lf_map.specs.Letters.{mode_after, is_cut, front_part, after_part};
 ghost use Rattle.lf_map.specs.declared.parts.Mode.TheVariants.{Outside as outside};
+
+use lf_expression::cut_before;
 
 /// Whether a text goes on outside of strings, in one, or after a backslash in one.
 #[derive(Clone, Copy)]
@@ -69,28 +71,6 @@ pub(crate) fn cut_part(text: &[u8]) -> (&[u8], &[u8])
     ensures rest { result.1.now ≡ after_part outside text.now }
 {
     text.split_at(part_length(text))
-}
-
-/// Where the first such byte is, or the text's length.
-fn end_of(byte: u8, text: &[u8]) -> usize
-    ensures within { result ≤ length text.now }
-    ensures front { take result text.now ≡ front_of byte text.now }
-    ensures rest { drop result text.now ≡ from_first byte text.now }
-{
-    for (i, one) in text.iter().enumerate() {
-        if *one == byte {
-            return i;
-        }
-    }
-    text.len()
-}
-
-/// The text cut before the first such byte.
-pub(crate) fn cut_before(byte: u8, text: &[u8]) -> (&[u8], &[u8])
-    ensures front { result.0.now ≡ front_of byte text.now }
-    ensures rest { result.1.now ≡ from_first byte text.now }
-{
-    text.split_at(end_of(byte, text))
 }
 
 /// The text after its first byte.

@@ -1,16 +1,16 @@
 //! What a text says that is an assignment.
 
 ghost use Rattle.std.specs.Prelude.{◌≡◌, cond, drop, IfOk};
+ghost use Rattle.lf_expression.specs.Exprs.{expr_said, operation_said, missing, number, or_else, at_time, spaced, applied};
 ghost use Rattle.lf_map.specs.Letters.{int_of, after_digits};
-ghost use Rattle.lf_map.specs.Exprs.{expr_said, operation_said, missing, number, or_else, at_time, spaced, applied};
 ghost use Rattle.lf_map.specs.Assigns.{starts_digit, operation_by, after_call, plain_read, expr_read, target_of, expr_of};
 ghost use Rattle.lf_map.specs.Said.{read_said, found_said};
 
-use crate::expr::{Expr, Operation};
 use crate::numbers::{after_digits, divisor, int, is_digit, number, offset};
-use crate::parts::{cut_before, past, past_first};
+use crate::parts::{past, past_first};
 use crate::strings::read_string;
 use lf_core::OutOfMemory;
+use lf_expression::{Expr, Operation, cut_before};
 use lf_limits::MOST_NESTING;
 use std::alloc::Global;
 

@@ -81,10 +81,11 @@ abbrev pub rule_of : List ℕ → Rule
 rule_of [] = present
 rule_of (b ∷ w) = rule_by b (b ∷ w)
 
--- `*` or the slot's number, and after the colon the rule
+-- the slot's number before the colon, or none for `*`
 abbrev pub slot_of : List ℕ → Option ℕ
 slot_of [] = None
 slot_of (b ∷ w) = cond (b == 42) None (Some (number_of (front_of 58 w)))
 
+-- the slot before the colon, and the rule after it
 abbrev pub term_of : List ℕ → Term
 term_of text = record { slot = slot_of text; rule = rule_of (drop 1 (from_first 58 text)) }

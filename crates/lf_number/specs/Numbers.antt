@@ -87,12 +87,15 @@ HoldsNumber lo hi v = IsNum (IsBetween lo hi) v
 abbrev pub most_digits : ℤ → ℤ → ℕ
 most_digits lo hi = max (width 10 (magnitude lo)) (width 10 (magnitude hi))
 
+-- the size of the numbers of one sign: nine for each digit, and two
 abbrev pub half_points : ℤ → ℤ → ℕ
 half_points lo hi = 9 * most_digits lo hi + 2
 
+-- the size of a range of numbers, doubled where some are negative
 abbrev pub number_size : ℤ → ℤ → ℕ
 number_size lo hi = cond (is_negative lo) (2 * half_points lo hi) (half_points lo hi)
 
+-- the size of a range whose zero is a dash
 abbrev pub dash_size : ℤ → ℤ → ℕ
 dash_size lo hi = half_points lo hi
 
@@ -100,6 +103,7 @@ dash_size lo hi = half_points lo hi
 abbrev pub whole_digits : ℤ → ℕ
 whole_digits hi = width 10 (magnitude hi / 1000)
 
+-- the size of a range in thousandths
 abbrev pub thousandths_size : ℤ → ℕ
 thousandths_size hi = 9 * whole_digits hi + 38
 
@@ -107,6 +111,7 @@ thousandths_size hi = 9 * whole_digits hi + 38
 abbrev pub padded_digits : ℕ → ℕ → ℤ → ℕ
 padded_digits r least hi = max least (width r (magnitude hi))
 
+-- the size of a range of padded numbers
 abbrev pub padded_size : ℕ → ℕ → ℤ → ℕ
 padded_size r least hi = 18 * padded_digits r least hi + 2
 

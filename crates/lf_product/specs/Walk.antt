@@ -11,7 +11,7 @@ NotAbove [] bs = Unit {0}
 NotAbove (a ∷ as') [] = ⊥
 NotAbove (a ∷ as') (b ∷ bs) = (a < b) ⊎ ((a ≡ b) × NotAbove as' bs)
 
--- the shorter line is less, and of equal length the lesser by bytes
+-- A line is at most another: it is shorter, or as long and not above it by bytes.
 abbrev pub LineLe : List ℕ → List ℕ → Type 0
 LineLe as' bs = (length as' < length bs) ⊎ ((length as' ≡ length bs) × NotAbove as' bs)
 

@@ -5,6 +5,7 @@ ghost use Rattle.lf_core.specs.Written.{machine_of};
 use crate::small_machines::SmallMachine;
 use lf_core::OutOfMemory;
 use lf_product::{Pairs, distances};
+use lf_tables::Tables;
 use lf_witness::{Witness, least};
 use std::alloc::Global;
 
@@ -22,4 +23,11 @@ pub(crate) fn witness_of(alloc: Global, m: &SmallMachine) -> Result<Option<Witne
         return Ok(None);
     }
     Ok(Some(least(alloc, &pairs)?))
+}
+
+/// The tables of the small machine.
+pub(crate) fn tables_of(alloc: Global, m: &SmallMachine) -> Result<Option<Tables>, OutOfMemory> {
+    let pairs = distances(alloc, m)?;
+    pairs.is_machine();
+    Tables::build(alloc, pairs.table())
 }

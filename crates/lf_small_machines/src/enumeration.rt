@@ -162,7 +162,11 @@ fn ways_over(alloc: Global, m: &SmallMachine, word: &[u8]) -> Result<Vec<Way>, O
 }
 
 /// The numbers of the whole runs over the word, in rising order.
-fn whole_runs(alloc: Global, m: &SmallMachine, word: &[u8]) -> Result<Vec<u64>, OutOfMemory> {
+pub(crate) fn whole_runs(
+    alloc: Global,
+    m: &SmallMachine,
+    word: &[u8],
+) -> Result<Vec<u64>, OutOfMemory> {
     let ways = ways_over(alloc, m, word)?;
     let mut runs = Vec::new(alloc);
     for way in &ways {

@@ -2,11 +2,13 @@
 ghost use Rattle.std.specs.Prelude.{◌≡◌};
 ghost use Rattle.lf_core.specs.Written.{machine_of};
 
-use crate::answers::{pairs_of, witness_of};
-use crate::enumeration::{Found, first_word, number_of, place, plain_distances, words};
+use crate::answers::{pairs_of, tables_of, witness_of};
+use crate::enumeration::{Found, first_word, number_of, place, plain_distances, whole_runs, words};
 use crate::small_machines::{LETTERS, Random, SmallMachine, random_machine};
-use lf_core::{Bytes, OutOfMemory};
+use lf_core::{Bytes, OutOfMemory, Run};
 use lf_product::Pairs;
+use lf_sets::SetReader;
+use lf_tables::Tables;
 use lf_witness::{Witness, least_from};
 use std::alloc::Global;
 
@@ -89,6 +91,41 @@ fn agrees(alloc: Global, m: &SmallMachine, words: &[Bytes]) -> Result<bool, OutO
     Ok(is_least(&witness, &found, plain.get(whole).copied().flatten()))
 }
 
+/// Whether the run is one of these, or is none where there are none.
+fn is_one_of(run: &Option<Run>, runs: &[u64]) -> bool {
+    let Some(run) = run else {
+        return runs.is_empty();
+    };
+    let number = number_of(run);
+    runs.iter().any(|other| *other == number)
+}
+
+/// Whether tables and sets find one of the whole runs over the word. Where it has one alone, they find the same.
+fn finds_runs(
+    alloc: Global,
+    m: &SmallMachine,
+    tables: &Tables,
+    word: &[u8],
+) -> Result<bool, OutOfMemory> {
+    let runs = whole_runs(alloc, m, word)?;
+    let by_tables = tables.run(alloc, word)?;
+    let by_sets = SetReader::run(alloc, m, word)?;
+    Ok(is_one_of(&by_tables, &runs) && is_one_of(&by_sets, &runs))
+}
+
+/// The same for each word.
+fn finds_all_runs(alloc: Global, m: &SmallMachine, words: &[Bytes]) -> Result<bool, OutOfMemory> {
+    let Some(tables) = tables_of(alloc, m)? else {
+        return Ok(false);
+    };
+    for word in words {
+        if !finds_runs(alloc, m, &tables, word.as_slice())? {
+            return Ok(false);
+        }
+    }
+    Ok(true)
+}
+
 /// Whether so many random machines do as the enumeration says.
 fn all_agree(alloc: Global, machines: u64) -> Result<bool, OutOfMemory> {
     let words = words(alloc)?;
@@ -96,6 +133,9 @@ fn all_agree(alloc: Global, machines: u64) -> Result<bool, OutOfMemory> {
     for number in 0..machines {
         let m = random_machine(alloc, &mut random, 3 + number % 12)?;
         if !agrees(alloc, &m, &words)? || !agrees_from_letters(alloc, &m, &words)? {
+            return Ok(false);
+        }
+        if !finds_all_runs(alloc, &m, &words)? {
             return Ok(false);
         }
     }

@@ -1,4 +1,4 @@
--- What a line is.
+-- Which sort a line is of: a note, long, or a line to be read.
 use Rattle.std.specs.Prelude.{◌≡◌, ℕ, ◌+◌, ◌<◌, ltb, Bool, false, ◌&&◌, ◌==◌, cond, List, [], ◌∷◌, ◌++◌, length}
 use Rattle.lf_limits.specs.Limits.{most_line_bytes}
 use Rattle.lf_stream.specs.declared.marks.Sort.{Sort}

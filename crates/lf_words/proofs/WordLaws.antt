@@ -1,6 +1,6 @@
 -- The words of a command are texts within the limit.
-use Rattle.std.proofs.Common.{◌≡◌, ℕ, List, [], ◌∷◌, ◌++◌, ◌≤◌, Bool, true, false, cond, length, codes, ◌&&◌, refl, sym, ap, ◌∙◌, subst, inl, inr}
-use Rattle.std.specs.Prelude.{leb, Option, None, Some}
+use Rattle.std.proofs.Common.{◌≡◌, ℕ, List, [], ◌∷◌, ◌++◌, Bool, true, false, cond, length, codes, ◌&&◌, refl, sym, ap, ◌∙◌, subst, inl, inr}
+use Rattle.std.specs.Prelude.{leb, None, Some}
 use Rattle.std.specs.Option.{ForSome}
 use Rattle.std.specs.List.{list_all}
 use Rattle.std.specs.Str.{bytes_eq, is_utf8}
@@ -10,7 +10,7 @@ use Rattle.lf_limits.specs.Limits.{most_word_bytes}
 use Rattle.lf_words.specs.declared.command.Command.{Command}
 use Rattle.lf_words.specs.declared.command.Verb.{Verb}
 use Rattle.lf_words.specs.declared.command.Verb.TheVariants.{Check, Read, Write, Translate, Show, Gen}
-use Rattle.lf_words.specs.Command.{Given, verb_text, front_text, option_words, value_of, is_word, IsWord, IsPlain, IsTail, IsCommand}
+use Rattle.lf_words.specs.Command.{Given, verb_text, front_text, option_words, value_of, is_word, IsWord, IsPlain, IsTranslate, IsTail, IsCommand, HasTarget}
 
 pub both_true : (a b : Bool) → (a && b) ≡ true → (a ≡ true) × (b ≡ true)
 both_true true b e = (refl, e)
@@ -105,3 +105,34 @@ pub narrowing_word : (words : List (List ℕ)) (c : Command) → IsCommand words
 narrowing_word words c is = λ text e.
     let o = options_by c.verb c is.tail is.follows (options_after (verb_text c.verb ∷ []) is.tail words is.spelled is.each) in
     value_word (codes "--narrow") o.options text o.each (sym o.narrow ∙ e)
+
+-- ---- the target and the map of a translation
+
+translate_words : (c : Command) (tail : List (List ℕ)) → IsTranslate tail c → list_all is_word tail ≡ true → HasTarget c
+translate_words c tail h each =
+    let before = front_text c.source.front ∷ c.source.format ∷ front_text h.to.front ∷ [] in
+    let texts = options_after before (h.to.format ∷ h.by ∷ option_words h.options) tail h.spelled each in
+    let format = both_true (is_word h.to.format) (list_all is_word (h.by ∷ option_words h.options)) texts in
+    let map = both_true (is_word h.by) (list_all is_word (option_words h.options)) format.1 in
+    record {
+      to = h.to;
+      by = h.by;
+      target = h.target;
+      map = h.map;
+      format = word_of h.to.format format.0;
+      narrow = λ text e. value_word (codes "--narrow-to") h.options text map.1 (sym h.narrow_to ∙ e);
+      text = word_of h.by map.0;
+    }
+
+target_words : (words : List (List ℕ)) (c : Command) (verb : Verb) → verb ≡ Translate → c.verb ≡ verb → (is : IsCommand words c) → IsTail verb is.tail c → HasTarget c
+target_words words c Translate e v is h =
+    translate_words c is.tail h (options_after (verb_text c.verb ∷ []) is.tail words is.spelled is.each)
+target_words words c Check e v is h = absurd (cc)
+target_words words c Read e v is h = absurd (cc)
+target_words words c Write e v is h = absurd (cc)
+target_words words c Show e v is h = absurd (cc)
+target_words words c Gen e v is h = absurd (cc)
+
+-- A translation has a target and a map, of words.
+pub target_word : (words : List (List ℕ)) (c : Command) → IsCommand words c → c.verb ≡ Translate → HasTarget c
+target_word words c is e = target_words words c c.verb e refl is is.follows

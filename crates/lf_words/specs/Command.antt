@@ -1,6 +1,7 @@
 -- The command lines: the words of each command.
 use Rattle.std.specs.Prelude.{◌≡◌, ℕ, ◌≤◌, ◌⊎◌, List, [], ◌∷◌, Option, None, Some, Bool, true, cond, ◌||◌, ◌&&◌, length, codes, decimal, leb}
 use Rattle.std.specs.List.{list_all}
+use Rattle.std.specs.Option.{ForSome}
 use Rattle.std.specs.Str.{IsUtf8, bytes_eq, is_utf8}
 use Rattle.lf_limits.specs.Limits.{most_jobs, most_records, most_word_bytes}
 use Rattle.lf_words.specs.declared.command.Command.{Command}
@@ -157,3 +158,13 @@ IsBad words = (c : Command) → IsCommand words c → ⊥
 abbrev pub IsOneCommandOrBad : List (List ℕ) → Type 0
 IsOneCommandOrBad words =
     ((c : Command) × IsCommand words c × ((d : Command) → IsCommand words d → d ≡ c)) ⊎ IsBad words
+
+-- The command has a target and a map, and their texts are words.
+pub record HasTarget (c : Command) : Type 0 where
+  pub to : Side
+  pub by : List ℕ
+  pub target : c.target ≡ Some to
+  pub map : c.map ≡ Some by
+  pub format : IsWord to.format
+  pub narrow : ForSome {T = List ℕ} to.narrow IsWord
+  pub text : IsWord by

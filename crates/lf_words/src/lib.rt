@@ -3,7 +3,7 @@
 
 mod command;
 mod faults;
-/// Laws over the definitions: words are one command or bad, and the format is a word.
+/// Laws over the definitions: words are one command or bad, and the texts of a command are words.
 pub mod laws;
 mod names;
 mod numbers;

@@ -27,9 +27,24 @@ read¶apache¶%h\t%q¦a⇥?b¶⇥¶¦3¦["a","?b"]¶¦unread 2¶
 read¶apache¶%h¦a¶b¦0¦["a"]¶["b"]¶¦
 read¶apache¶%r¦a¶¶b␍¦3¦["a"]¶[""]¶¦unread 3¶
 read¶apache¶%h¦¶¶a¶¶¦3¦["a"]¶¦unread 1¶unread 2¶unread 4¶
-gen¶apache¶%h¶1¶1¦200¶¦2¦¦logfmt: not built¶
-translate¶apache¶%h¶apache¶%h¶¦200¶¦2¦¦logfmt: not built¶
-gen¶apache¶%h¶1¶1¶--narrow¶x¦200¶¦2¦¦logfmt: not built¶
+gen¶apache¶%X¶7¶50¦200¶¦0¦records 50 read 50 bytes 100¶¦
+gen¶apache¶%X¶7¶50¶--jobs¶64¦200¶¦0¦records 50 read 50 bytes 100¶¦
+gen¶apache¶%X¶7¶1024¦200¶¦0¦records 1024 read 1024 bytes 2048¶¦
+gen¶apache¶%X¶7¶1025¦200¶¦0¦records 1025 read 1025 bytes 2050¶¦
+gen¶iis¶time¶1¶3¦200¶¦0¦records 3 read 3 bytes 30¶¦
+gen¶apache¶%X¶7¶0¦200¶¦0¦records 0 read 0 bytes 0¶¦
+gen¶apache¶%B¶0¶1¦200¶¦0¦records 1 read 1 bytes 7¶¦
+gen¶apache¶%h %>s %b¶5¶9¦200¶¦0¦records 9 read 9 bytes 146¶¦
+gen¶iis¶date time sc-status¶18446744073709551615¶9¦200¶¦0¦records 9 read 9 bytes 224¶¦
+gen¶haproxy¶%{+Q}r %ST¶2¶9¦200¶¦0¦records 9 read 9 bytes 110¶¦
+gen¶nginx¶$remote_addr [$time_local] "$request" $status¶9¶9¦200¶¦0¦records 9 read 9 bytes 432¶¦
+gen¶apache¶no slot¶3¶7¦200¶¦0¦records 7 read 7 bytes 56¶¦
+gen¶apache¶%h¶1¶1¶--narrow¶x¦200¶¦2¦¦logfmt: source narrowing: Syntax at 0¶
+gen¶apache¶%Z¶1¶1¦200¶¦2¦¦logfmt: source format: UnknownName at 0¶
+gen¶apache¶%s¶18446744073709551616¶1¦200¶¦2¦¦logfmt: bad command line¶
+gen¶w3c¶cs-uri¶1¶5¦200¶¦2¦¦logfmt: note line: ["#"]¶
+gen¶apache¶%B%D¶1¶5¦200¶¦1¦¦ambiguous¶line "110"¶first [1,10]¶second [11,0]¶
+gen¶apache¶%{A}i¶1¶5¶--narrow¶s1:len 0..400¦200¶¦7¦¦logfmt: size 5619 over 4096¶
 show¶apache¶%h¶--narrow¶s1:present¦200¶¦0¦s1 %h text dash¶¦
 read¶apache¶%s ¶--narrow¶x¦200¶¦2¦¦logfmt: source narrowing: Syntax at 0¶
 check¶iis¶date¶--narrow¶s1:present¦200¶¦0¦readable 1¶¦
@@ -116,6 +131,7 @@ check¶apache¶%B¶--narrow¶s1;¦¦2¦¦logfmt: source narrowing: Syntax at 2¶
 check¶apache¶%h%u¶--narrow¶s1:len 1..1¦¦0¦readable 2¶¦
 check¶envoy¶[%START_TIME%] "%REQ(:METHOD)% %REQ(X-ENVOY-ORIGINAL-PATH?:PATH)% %PROTOCOL%" %RESPONSE_CODE% %RESPONSE_FLAGS% %BYTES_RECEIVED% %BYTES_SENT% %DURATION% %RESP(X-ENVOY-UPSTREAM-SERVICE-TIME)% "%REQ(X-FORWARDED-FOR)%" "%REQ(USER-AGENT)%" "%REQ(X-REQUEST-ID)%" "%REQ(:AUTHORITY)%" "%UPSTREAM_HOST%"¶--narrow¶*:not "¦¦0¦readable 15¶¦
 read¶envoy¶[%START_TIME%] "%REQ(:METHOD)% %REQ(X-ENVOY-ORIGINAL-PATH?:PATH)% %PROTOCOL%" %RESPONSE_CODE% %RESPONSE_FLAGS% %BYTES_RECEIVED% %BYTES_SENT% %DURATION% %RESP(X-ENVOY-UPSTREAM-SERVICE-TIME)% "%REQ(X-FORWARDED-FOR)%" "%REQ(USER-AGENT)%" "%REQ(X-REQUEST-ID)%" "%REQ(:AUTHORITY)%" "%UPSTREAM_HOST%"¶--narrow¶*:not "¦[2016-04-15T20:17:00.310Z] "POST /api/v1/locations HTTP/2" 204 - 154 0 226 100 "10.0.35.28" "nsq2http" "cc21d9b0-cf5c-432b-8c7e-98aeb7988cd2" "locations" "tcp://10.0.2.1:80"¶¦0¦["2016-04-15T20:17:00.310+00:00","POST","/api/v1/locations","HTTP/2",204,null,154,0,226,"100","10.0.35.28","nsq2http","cc21d9b0-cf5c-432b-8c7e-98aeb7988cd2","locations","tcp://10.0.2.1:80"]¶¦
+read¶apache¶%{A}ia%{B}i¶--narrow¶s1:only ab;s1:present;s2:only ab;s2:present;s2:len 17..17¦babbbbbbbbbbbbbbbbb¶babbbbbbbbbbbbbbbb¶¦3¦["b","bbbbbbbbbbbbbbbbb"]¶¦unread 2¶
 read¶apache¶%B %s¶--narrow¶s1:range 1..10;s2:present;s1:range 5..20¦5 200¶4 200¶10 200¶11 200¶7 -¶¦3¦[5,200]¶[10,200]¶¦unread 2¶unread 4¶unread 5¶
 write¶apache¶%h %s¶--narrow¶s1:len ..3¦¦2¦¦logfmt: source narrowing: Syntax at 7¶
 write¶apache¶%h %s¶--narrow¶s1:len 0..3;s2:range 200..299¦["abc",200]¶["abcd",200]¶["abc",300]¶[null,null]¶¦3¦abc 200¶- -¶¦bad 2 WrongValue s1¶bad 3 WrongValue s2¶
@@ -125,6 +141,35 @@ check¶iis¶cs-method sc-status¶--narrow¶s1:not #¦¦0¦readable 2¶¦
 check¶iis¶cs-method sc-status¶--narrow¶s2:present¦¦2¦¦logfmt: note line: ["#",0]¶
 show¶iis¶date cs(Referer)¶--narrow¶*:only a;*:present¦¦0¦s1 date day dash¶s2 cs(Referer) text dash¶¦
 read¶nginx¶$a¶--narrow¶¦1¶¦2¦¦logfmt: source narrowing: Syntax at 0¶
+translate¶apache¶%t¶nginx¶$time_iso8601¶s1=s1¦[10/Oct/2000:13:55:36 -0700]¶¦0¦2000-10-10T13:55:36-07:00¶¦
+translate¶apache¶%t¶w3c¶date time¶s1=date(utc(s1));s2=clock(utc(s1))¦[10/Oct/2000:13:55:36 -0700]¶¦0¦2000-10-10 20:55:36¶¦
+translate¶apache¶%t¶iis¶date time¶s1=date(utc(s1));s2=clock(utc(s1))¦[10/Oct/2000:13:55:36 -0700]¶¦0¦2000-10-10 20:55:36␍¶¦
+translate¶apache¶%t¶apache¶%B¶s1=epoch(s1)¦[10/Oct/2000:13:55:36 -0700]¶¦0¦971211336¶¦
+translate¶apache¶%b¶apache¶%B¶s1=s1¦-¶¦0¦0¶¦
+translate¶apache¶%s¶apache¶%s¶s1=s1¶--narrow-to¶s1:range 100..599¦999¶200¶-¶¦3¦200¶-¶¦unmapped 1 s1¶
+translate¶apache¶%h %B¶apache¶%B¶s1=s1¦¦2¦¦logfmt: map: Untyped s1¶
+translate¶apache¶%h %B¶apache¶%B¶s1=s3¦¦2¦¦logfmt: map: NoSlot s3¶
+translate¶apache¶%h %B¶apache¶%B¶s1=s2;s1=s2¦¦2¦¦logfmt: map: Twice s1¶
+translate¶apache¶%h %B¶apache¶%B¶¦¦2¦¦logfmt: map: Syntax at 0¶
+translate¶apache¶%h %B¶apache¶%B %B¶s2=s2¦¦2¦¦logfmt: map: Unfilled s1¶
+translate¶apache¶%h %l %u %t "%r" %>s %b "%{Referer}i" "%{User-agent}i"¶nginx¶$remote_addr - $remote_user [$time_local] "$request" $status $body_bytes_sent "$http_referer" "$http_user_agent"¶s1=s1;s2=s3;s3=s4;s4=s5;s5=or(s6,0);s6=s7;s7=s8;s8=s9¦10.0.0.1 - - [10/Oct/2000:13:55:36 -0700] "GET / HTTP/1.0" 200 - "-" "a\"b\xe2"¶¦0¦10.0.0.1 - - [10/Oct/2000:13:55:36 -0700] "GET / HTTP/1.0" 200 0 "-" "a\x22b\xE2"¶¦
+translate¶apache¶%r¶nginx-none¶$request_method $request_uri¶s1=part(s1,1);s2=part(s1,2)¦GET /a HTTP/1.0¶GET¶¦3¦GET /a¶¦unmapped 2 s2¶
+translate¶apache¶%t¶apache¶%t¶s1=utc(utc(utc(utc(utc(utc(utc(utc(utc(utc(utc(utc(utc(utc(utc(utc(s1))))))))))))))))¦¦0¦¦
+translate¶apache¶%t¶apache¶%t¶s1=utc(utc(utc(utc(utc(utc(utc(utc(utc(utc(utc(utc(utc(utc(utc(utc(utc(s1)))))))))))))))))¦¦2¦¦logfmt: map: Syntax at 67¶
+translate¶apache¶%h %s¶nginx¶$remote_addr $status¶s1=s1;s2=s2¦a 200¶b 999¶b -¶x¶¦3¦a 200¶b 999¶¦unmapped 3 s2¶unread 4¶
+translate¶w3c¶date time cs-method¶apache¶%t %m¶s1=at(s1,s2);s2=s3¦#Fields: date time cs-method␍¶2000-10-10 20:55:36 GET␍¶x␍¶¦3¦[10/Oct/2000:20:55:36 +0000] GET¶¦unread 3¶
+translate¶apache¶%Z¶apache¶%Y¶¶--narrow¶x¶--narrow-to¶y¦¦2¦¦logfmt: source format: UnknownName at 0¶
+translate¶apache¶%h¶apache¶%Y¶¶--narrow¶x¶--narrow-to¶y¦¦2¦¦logfmt: source narrowing: Syntax at 0¶
+translate¶apache¶%h¶apache¶%Y¶¶--narrow-to¶y¦¦2¦¦logfmt: target format: UnknownName at 0¶
+translate¶apache¶%h¶apache¶%B¶¶--narrow-to¶s2:present¦¦2¦¦logfmt: target narrowing: NoSlot s2¶
+translate¶apache¶%h¶apache¶%B¶¶--narrow-to¶y¦¦2¦¦logfmt: target narrowing: Syntax at 0¶
+translate¶apache¶%B%D¶apache¶%B¶s1=¦¦2¦¦logfmt: map: Syntax at 3¶
+translate¶apache¶%B%D¶apache¶%B¶s1=s1¦1-¶¦1¦¦ambiguous¶line "110"¶first [1,10]¶second [11,0]¶
+translate¶apache¶%B¶apache¶%B%D¶s1=s1;s2=s1¦1¶¦0¦11¶¦
+translate¶w3c¶cs-uri¶apache¶%B¶s1=1¦¦2¦¦logfmt: note line: ["#"]¶
+translate¶apache¶%{A}i¶apache¶%B¶s1=1¶--narrow¶s1:len 0..400¦¦7¦¦logfmt: size 5619 over 4096¶
+translate¶apache¶%B¶apache¶%B¶s1=s1¶--narrow¶s1:range 5..9¶--narrow-to¶s1:range 7..9¦4¶5¶8¶¦3¦8¶¦unread 1¶unmapped 2 s1¶
+translate¶apache¶%h¶apache¶%h¦¦2¦¦logfmt: bad command line¶
 "##;
 
 /// The text that a part of a row stands for.

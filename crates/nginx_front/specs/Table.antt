@@ -28,7 +28,7 @@ pub record Entry : Type 0 where
 abbrev pub entry_of : List (List ℕ) → Sort → Entry
 entry_of names sort = record { names = names; sort = sort }
 
--- every variable that isn't any text
+-- the variables with a kind of their own; a variable that isn't here is any text
 abbrev pub table : List Entry
 table =
     entry_of (codes "remote_addr" ∷ codes "server_addr" ∷ codes "server_protocol" ∷ codes "request_method" ∷ codes "scheme" ∷ codes "request_id" ∷ codes "host" ∷ codes "hostname" ∷ []) Visible ∷
@@ -51,7 +51,7 @@ sort_in (entry ∷ entries) name = if list_any (λ own. bytes_eq name own) entry
 abbrev pub sort_of : List ℕ → Sort
 sort_of name = sort_in table name
 
--- The letters of a text that may be any: what isn't escaped has only the bytes of a header, among which are the visible ones.
+-- The letters of a text whose variable allows any: every byte where texts are escaped, and the bytes of a header where they are not (`escape=none`).
 abbrev pub letters_of : Escape → Class
 letters_of Default = classes.ANY
 letters_of Json = classes.ANY

@@ -3,6 +3,7 @@ use Rattle.std.specs.Prelude.{codes}
 use Rattle.std.specs.Fmt.{decimal}
 use Rattle.lf_app.specs.declared.commands.Command.TheVariants.{Readable, Witness, Show, Refuse}
 use Rattle.lf_app.specs.Outcome.{told_out, told_err, shown, witness_text, refusal_text, refusal_status}
+use Rattle.lf_app.proofs.Drawing.{runs_generated}
 use Rattle.lf_app.proofs.RunLaws.{runs_text_out, runs_text_err, told_readable, told_witness, told_shown, told_refused, good_status, tells_out, tells_err}
 use Rattle.lf_app.proofs.running.answer.Goals as goal
 
@@ -51,3 +52,15 @@ returns-in-Refuse-clause-tells g c =
     let tell = c.tell_text-in-Refuse in
     let good = subst (λ (n : ℕ). (n ≤ 3) ⊎ (n ≡ 7)) (sym c.refusal_status.ensures) (good_status c.in-Refuse.refusal) in
     tells_err c.refusal_status.result.0 _ _ _ _ _ _ _ good tell.ensures.says tell.ensures.faults
+
+pub returns-in-Generate-clause-runs : goal.returns-in-Generate-clause-runs
+returns-in-Generate-clause-runs g c =
+    let it = c.in-Generate in
+    let tell = c.tell_text-in-Generate in
+    let runs = runs_generated it.reader it.seed it.count tell.result.0 (g.S.Source.left c.args.input.now) (g.E.Sink.got c.args.err.now) c.generated_text.result _ c.generated_text.ensures.said c.generated_text.ensures.one tell.ensures.says in
+    rw it.is runs
+
+pub returns-in-Generate-clause-tells : goal.returns-in-Generate-clause-tells
+returns-in-Generate-clause-tells g c =
+    let tell = c.tell_text-in-Generate in
+    tells_out 0 _ _ _ _ _ _ _ (inl (omega arith)) tell.ensures.says tell.ensures.faults

@@ -18,4 +18,4 @@ pub returns-clause-fault : goal.returns-clause-fault
 returns-clause-fault c =
     let why = c.in-Err.field-0.fault in
     let faulty = rw c.as_str.ensures at c.in-Err.ensures.faulty in
-    subst (IsNarrowingFault c.args.narrowing.now c.args.format) (sym c.side_fault.ensures) (narrowing_fault c.args.narrowing.now c.args.format c.in-Some.text why c.in-Some.is faulty)
+    subst (IsNarrowingFault c.args.which c.args.narrowing.now c.args.format) (sym c.side_fault.ensures) (narrowing_fault c.args.which c.args.narrowing.now c.args.format c.in-Some.text why c.in-Some.is faulty)

@@ -23,7 +23,7 @@ returns-in-Ok-clause-fault c =
     let side = c.args.side.now in
     let spelled = c.in-Ok.format in
     let spells = rw c.as_str.ensures at c.in-Ok.ensures.spelled in
-    IfErr-weaker c.narrow_by.result (IsNarrowingFault side.narrow spelled) (IsSideFault side) (λ f h. side_fault side spelled f spells h) c.narrow_by.ensures.fault
+    IfErr-weaker c.narrow_by.result (IsNarrowingFault c.args.which side.narrow spelled) (IsSideFault c.args.which side) (λ f h. side_fault c.args.which side spelled f spells h) c.narrow_by.ensures.fault
 
 pub returns-in-Err-At-clause-fault : goal.returns-in-Err-At-clause-fault
 returns-in-Err-At-clause-fault c =

@@ -1,12 +1,12 @@
 use Rattle.std.proofs.Common.{ℕ, true, false, sym, ap, ◌∙◌}
 use Rattle.lf_format.specs.declared.kind.ValueKind.{ValueKind}
 use Rattle.lf_format.specs.Keeps.{slots_in}
-use Rattle.lf_map.specs.Exprs.{expr_said}
+use Rattle.lf_expression.specs.Exprs.{expr_said}
+use Rattle.lf_expression.specs.Kinds.{has_kind}
+use Rattle.lf_expression.proofs.Numbered.{nth_read, at_least_one, fits_below}
 use Rattle.lf_map.specs.Forms.{form_said}
-use Rattle.lf_map.specs.Kinds.{has_kind}
 use Rattle.lf_map.specs.Filling.{first_stray}
 use Rattle.lf_map.proofs.Checked.{checked}
-use Rattle.lf_map.proofs.Numbered.{nth_read, at_least_one, fits_below}
 use Rattle.lf_map.proofs.checking.assign_fault.Goals as goal
 
 pub returns-then-not-has_kind : goal.returns-then-not-has_kind

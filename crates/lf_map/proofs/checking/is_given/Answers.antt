@@ -1,7 +1,7 @@
 use Rattle.std.proofs.Common.{length, refl, sym, ap, ◌∙◌, ◌-◌}
 use Rattle.std.specs.Prelude.{Option}
 use Rattle.std.proofs.lemmas.Option.{slice_get_read, slice_get_past}
-use Rattle.lf_map.specs.Exprs.{Expr}
+use Rattle.lf_expression.specs.Exprs.{Expr}
 use Rattle.lf_map.specs.Filling.{is_given}
 use Rattle.lf_map.proofs.Numbered.{form_nth, form_past}
 use Rattle.lf_map.proofs.checking.is_given.Goals as goal

@@ -1,10 +1,10 @@
-use Rattle.std.proofs.Common.{◌≡◌, ◌≤◌, ◌∙◌, sym, ap, subst, length, List, rules, arith}
+use Rattle.std.proofs.Common.{◌≡◌, ◌∙◌, sym, ap, subst, length, List, rules, arith}
 use Rattle.std.specs.Prelude.{All}
 use Rattle.lf_core.specs.declared.values.Value.{Value}
 use Rattle.lf_format.specs.declared.format.Piece.{Piece}
 use Rattle.lf_format.specs.Keeps.{slots_in}
-use Rattle.lf_map.specs.declared.expr.Expr.{Expr}
-use Rattle.lf_map.specs.Answers.{IsDated}
+use Rattle.lf_expression.specs.declared.expr.Expr.{Expr}
+use Rattle.lf_expression.specs.Answers.{IsDated}
 use Rattle.lf_map.specs.Mapped.{IsMapped, IsOfTarget}
 use Rattle.lf_map.proofs.Cases.{ok_more}
 use Rattle.lf_map.proofs.Records.{all_dated, map_count, of_target}

@@ -1,5 +1,5 @@
 use Rattle.std.proofs.Common.{List, [], ◌∷◌, ◌++◌, sym, ap, ◌∙◌}
-use Rattle.lf_map.specs.Exprs.{Expr}
+use Rattle.lf_expression.specs.Exprs.{Expr}
 use Rattle.lf_map.specs.Forms.{given_said}
 use Rattle.lf_map.specs.Filling.{all_given}
 use Rattle.lf_map.proofs.Grown.{all_given_push}

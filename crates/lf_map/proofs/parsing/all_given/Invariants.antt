@@ -1,5 +1,5 @@
 use Rattle.std.proofs.Common.{◌≡◌}
-use Rattle.lf_map.specs.Exprs.{exprs_said}
+use Rattle.lf_expression.specs.Exprs.{exprs_said}
 use Rattle.lf_map.specs.Forms.{form_said}
 use Rattle.lf_map.specs.Filling.{all_given}
 use Rattle.lf_map.proofs.parsing.all_given.Given as goal

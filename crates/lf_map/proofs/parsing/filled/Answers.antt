@@ -1,7 +1,7 @@
-use Rattle.std.proofs.Common.{◌≡◌, ◌≤◌, ◌∙◌, ap, List, length, arith}
+use Rattle.std.proofs.Common.{◌≤◌, ◌∙◌, ap, List, length, arith}
 use Rattle.std.specs.Prelude.{Option}
 use Rattle.lf_limits.specs.Limits.{most_slots}
-use Rattle.lf_map.specs.declared.expr.Expr.{Expr}
+use Rattle.lf_expression.specs.declared.expr.Expr.{Expr}
 use Rattle.lf_map.proofs.Grown.{taken_short}
 use Rattle.lf_map.proofs.parsing.filled.Goals as goal
 

@@ -1,8 +1,8 @@
-use Rattle.std.proofs.Common.{◌≡◌, sym, ap, ◌∙◌, arith}
+use Rattle.std.proofs.Common.{◌≡◌, sym, ◌∙◌, arith}
 use Rattle.std.specs.Prelude.{Some}
 use Rattle.lf_format.specs.Keeps.{slots_in}
+use Rattle.lf_expression.specs.Exprs.{expr_said}
 use Rattle.lf_map.specs.declared.fault.MapFault.{MapFault}
-use Rattle.lf_map.specs.Exprs.{expr_said}
 use Rattle.lf_map.specs.Forms.{form_said}
 use Rattle.lf_map.specs.Filling.{part_fault}
 use Rattle.lf_map.proofs.Giving.{in_range, gives, same_fault}

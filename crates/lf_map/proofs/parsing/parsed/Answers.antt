@@ -1,7 +1,7 @@
 use Rattle.std.proofs.Common.{List, sym, ap, ◌∙◌}
 use Rattle.std.specs.Prelude.{Option}
-use Rattle.lf_map.specs.declared.expr.Expr.{Expr}
-use Rattle.lf_map.specs.Exprs.{exprs_said}
+use Rattle.lf_expression.specs.declared.expr.Expr.{Expr}
+use Rattle.lf_expression.specs.Exprs.{exprs_said}
 use Rattle.lf_map.specs.Forms.{form_said}
 use Rattle.lf_map.specs.Filling.{first_blank}
 use Rattle.lf_map.proofs.Kept.{unfilled, all_filled, kept_of}

@@ -1,7 +1,7 @@
 use Rattle.std.proofs.Common.{◌++◌, [], ◌∷◌, sym, ap, ◌∙◌, List}
 use Rattle.std.specs.Prelude.{Option}
-use Rattle.lf_map.specs.declared.expr.Expr.{Expr}
-use Rattle.lf_map.specs.Exprs.{exprs_said}
+use Rattle.lf_expression.specs.declared.expr.Expr.{Expr}
+use Rattle.lf_expression.specs.Exprs.{exprs_said}
 use Rattle.lf_map.specs.Forms.{given_said}
 use Rattle.lf_map.specs.Filling.{all_given}
 use Rattle.lf_map.proofs.Grown.{exprs_more}

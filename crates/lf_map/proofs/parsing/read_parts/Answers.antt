@@ -1,7 +1,8 @@
-use Rattle.std.proofs.Common.{length, ◌≡◌, sym, ◌∙◌}
+use Rattle.std.proofs.Common.{◌∙◌}
 use Rattle.lf_format.specs.Keeps.{slots_in}
+use Rattle.lf_expression.proofs.Cutting.{nothing_left}
 use Rattle.lf_map.specs.Forms.{form_said}
-use Rattle.lf_map.proofs.Steps.{begin_counted, nothing_left, part_short, is_part, fails, ends, smaller, goes}
+use Rattle.lf_map.proofs.Steps.{part_short, is_part, fails, ends, smaller, goes}
 use Rattle.lf_map.proofs.parsing.read_parts.Goals as goal
 
 pub read_part-requires-clause-shorter : goal.read_part-requires-clause-shorter

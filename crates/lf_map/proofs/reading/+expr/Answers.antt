@@ -1,8 +1,8 @@
-use Rattle.std.proofs.Common.{◌≡◌, ℕ, ◌-◌, List, drop, sym, ap, ◌∙◌}
+use Rattle.std.proofs.Common.{◌≡◌, ℕ, ◌-◌, List, sym, ap, ◌∙◌}
 use Rattle.std.specs.Prelude.{Option, codes}
 use Rattle.std.specs.Str.{bytes_eq}
+use Rattle.lf_expression.specs.Exprs.{or_else, at_time}
 use Rattle.lf_map.specs.declared.reading.Read.{Read}
-use Rattle.lf_map.specs.Exprs.{or_else, at_time}
 use Rattle.lf_map.specs.Assigns.{paired, line_call, one_call, expr_read}
 use Rattle.lf_map.specs.Said.{read_said, found_said}
 use Rattle.lf_map.proofs.Cases.{ok_more}

@@ -1,6 +1,5 @@
 use Rattle.std.proofs.Common.{ℕ, List, ap, ◌∙◌}
 use Rattle.lf_limits.specs.Limits.{most_nesting}
-use Rattle.lf_map.specs.Exprs.{Expr}
 use Rattle.lf_map.specs.Letters.{number_of}
 use Rattle.lf_map.specs.Assigns.{Read, expr_read}
 use Rattle.lf_map.proofs.reading.read_assign.Goals as goal

@@ -1,5 +1,5 @@
 use Rattle.std.proofs.Common.{sym, ◌∙◌}
-use Rattle.lf_map.proofs.Steps.{nothing_left}
+use Rattle.lf_expression.proofs.Cutting.{nothing_left}
 use Rattle.lf_map.proofs.Lettered.{none_left, none_after, ended, after_end, on}
 use Rattle.lf_map.proofs.strings.read_string.Goals as goal
 

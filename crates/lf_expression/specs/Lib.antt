@@ -1,0 +1,4 @@
+pub mod Exprs
+pub mod Values
+pub mod Kinds
+pub mod Answers

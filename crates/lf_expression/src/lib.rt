@@ -1,0 +1,16 @@
+//! Expressions of a field map: their kinds, and their values on a record.
+#![tactic(auto)]
+
+mod answers;
+mod civil;
+mod expr;
+mod kinds;
+mod laws;
+mod parts;
+mod values;
+
+pub use expr::{Divisor, Expr, Offset, Operation};
+pub use kinds::has_kind;
+pub use laws::keeps_kinds;
+pub use parts::cut_before;
+pub use values::expr_value;

@@ -1,5 +1,0 @@
-use Rattle.lf_map.proofs.Kinded.{sorted}
-use Rattle.lf_map.proofs.laws.keeps_kinds.Goals as goal
-
-pub returns : goal.returns
-returns c = λ source rec kind e r h. sorted source rec r kind e h

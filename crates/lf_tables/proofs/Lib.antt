@@ -1,0 +1,7 @@
+pub mod Reach
+pub mod WayLaws
+pub mod NumberLaws
+pub mod CellLaws
+pub mod FoundLaws
+pub mod WalkLaws
+pub mod TableLaws

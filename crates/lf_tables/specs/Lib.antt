@@ -1,0 +1,5 @@
+pub mod Reached
+pub mod Classes
+pub mod Ways
+pub mod Tabled
+pub mod Found
