@@ -81,24 +81,10 @@ RT
     build 's1:present' '' 0 ''
 fi
 
-timed() { # BEFORE PART COUNT AFTER STATUS
-    local best= took
-    for _ in 1 2 3 4 5; do
-        local start end status=0
-        start=$(date +%s.%N)
-        "$program" "$1" "$2" "$3" "$4" || status=$?
-        end=$(date +%s.%N)
-        [ "$status" = "$5" ] || { echo "status $status" >&2; exit 1; }
-        took=$(echo "$end - $start" | bc -l)
-        if [ -z "$best" ] || [ "$(echo "$took < $best" | bc -l)" = 1 ]; then best=$took; fi
-    done
-    echo "$best"
-}
-
 both() { # WHAT BEFORE PART AFTER STATUS: texts of 100,000 and 1,000,000 bytes
     local few many
-    few=$(timed "$2" "$3" $((100000 / ${#3})) "$4" "$5")
-    many=$(timed "$2" "$3" $((1000000 / ${#3})) "$4" "$5")
+    few=$(least_of_five "$5" "$2" "$3" $((100000 / ${#3})) "$4")
+    many=$(least_of_five "$5" "$2" "$3" $((1000000 / ${#3})) "$4")
     printf '%-16s %9.4f %9.4f %6.2f\n' "$1" "$few" "$many" "$(echo "$many / $few" | bc -l)"
 }
 

@@ -78,23 +78,10 @@ RT
     build apache '' 1 ''
 fi
 
-timed() { # FRONT BEFORE LETTERS AFTER
-    local best= took
-    for _ in 1 2 3 4 5; do
-        local start end
-        start=$(date +%s.%N)
-        "$program" "$1" "$2" "$3" "$4"
-        end=$(date +%s.%N)
-        took=$(echo "$end - $start" | bc -l)
-        if [ -z "$best" ] || [ "$(echo "$took < $best" | bc -l)" = 1 ]; then best=$took; fi
-    done
-    echo "$best"
-}
-
 both() { # FRONT BEFORE AFTER
     local few many
-    few=$(timed "$1" "$2" 100000 "$3")
-    many=$(timed "$1" "$2" 1000000 "$3")
+    few=$(least_of_five 0 "$1" "$2" 100000 "$3")
+    many=$(least_of_five 0 "$1" "$2" 1000000 "$3")
     printf '%-16s %9.4f %9.4f %6.2f\n' "$1" "$few" "$many" "$(echo "$many / $few" | bc -l)"
 }
 
