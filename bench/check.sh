@@ -29,6 +29,8 @@ checked 'nginx combined' 668 '$remote_addr - $remote_user [$time_local] "$reques
 checked 'HAProxy HTTP' 2417 '%ci:%cp [%tr] %ft %b/%s %TR/%Tw/%Tc/%Tr/%Ta %ST %B %CC %CS %tsc %ac/%fc/%bc/%sc/%rc %sq/%bq %hr %hs %{+Q}r' haproxy
 checked '%B%D' 354 '%B%D'
 checked '128 slots %X' 898 "$(repeated 128 %X)"
-checked 'free text and a long tail' 4090 "%{A}i$(repeated 4071 a)"
+checked 'free text and a long tail' 8186 "%{A}i$(repeated 8167 a)"
 checked '23 numbers' 4050 "$(repeated 23 %B)"
-checked '23 numbers, parted' 4072 "$(repeated 22 '%B ')%B"
+checked '46 numbers' 8098 "$(repeated 46 %B)"
+checked '46 numbers, parted' 8143 "$(repeated 45 '%B ')%B"
+checked 'free texts, parted' 8147 "$(repeated 127 "%{A}i$(repeated 47 ' ')")%{A}i"

@@ -1,5 +1,6 @@
 #!/usr/bin/env python3
-"""Writes LINES log lines of a KIND (short, plain, combined, nginx, haproxy) with a fixed seed: generate.py KIND LINES > LOG.
+"""Writes LINES log lines of a KIND (short, plain, combined, hundredth, nginx, haproxy, iis, envoy) with a fixed seed:
+generate.py KIND LINES > LOG. Of `hundredth`, which has combined lines, each hundredth line is cut in two.
 No line holds a byte that a server would escape, so a peer may copy texts into JSON as they stand."""
 import random
 import sys
@@ -75,8 +76,34 @@ def haproxy():
             f'{{example.org}} {{}} "{request()}"')
 
 
+def hundredth(cut=iter(range(10**12))):
+    line = combined()
+    return line[:40] if next(cut) % 100 == 99 else line
+
+
+def day_and_clock(parted):
+    return (f"{pick.randrange(2000, 2027)}-{pick.randrange(1, 13):02}-{pick.randrange(1, 29):02}{parted}"
+            f"{pick.randrange(24):02}:{pick.randrange(60):02}:{pick.randrange(60):02}")
+
+
+def iis():
+    agent = pick.choice(AGENTS).replace(" ", "+")
+    return (f"{day_and_clock(' ')} 10.0.0.{pick.randrange(9)} {pick.choice(('GET', 'GET', 'POST'))} {pick.choice(PATHS)} "
+            f"{'-' if pick.random() < 0.6 else f'id={pick.randrange(100000)}'} 443 {user()} {address()} {agent} {referer()} "
+            f"{pick.choice(STATUSES)} 0 0 {pick.randrange(3000)}\r")
+
+
+def envoy():
+    return (f'[{day_and_clock("T")}.{pick.randrange(1000):03}Z] "{pick.choice(("GET", "GET", "POST"))} {pick.choice(PATHS)} HTTP/1.1" '
+            f'{pick.choice(STATUSES)} - {count()} {count()} {pick.randrange(3000)} {pick.randrange(3000)} "{address()}" '
+            f'"{pick.choice(AGENTS)}" "{pick.randrange(16**12):012x}" "example.org" "{address()}:{pick.randrange(1024, 65536)}"')
+
+
+KINDS = (short, plain, combined, hundredth, nginx, haproxy, iis, envoy)
+
+
 def main():
-    line = {"short": short, "plain": plain, "combined": combined, "nginx": nginx, "haproxy": haproxy}[sys.argv[1]]
+    line = {kind.__name__: kind for kind in KINDS}[sys.argv[1]]
     left = int(sys.argv[2])
     while left > 0:
         some = min(left, 10000)

@@ -6,7 +6,7 @@ timed() { # NAME COMMAND..: the least of three runs
     for _ in 1 2 3; do
         local start end
         start=$(date +%s.%N)
-        "$@" <"$input" >"$work/$name.out"
+        "$@" <"$input" >"$work/$name.out" 2>"$work/$name.err" || [ "$?" = 3 ] # some lines aren't read
         end=$(date +%s.%N)
         took=$(echo "$end - $start" | bc -l)
         if [ -z "$best" ] || [ "$(echo "$took < $best" | bc -l)" = 1 ]; then best=$took; fi

@@ -38,6 +38,7 @@ is_side _ = false
 
 -- The parts of a directive, in the order in which they are spelled.
 pub record Directive : Type 0 where
+  -- nothing, `!` and a list of statuses, or such a list
   pub flags : List ℕ
   pub side : List ℕ
   pub name : Option (List ℕ)

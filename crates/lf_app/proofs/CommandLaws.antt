@@ -1,5 +1,5 @@
 -- The words are one command.
-use Rattle.std.proofs.Common.{◌≡◌, ℕ, List, refl, sym, ◌∙◌, ap, subst, inl, inr, length}
+use Rattle.std.proofs.Common.{◌≡◌, ℕ, List, Bool, false, refl, sym, ◌∙◌, ap, subst, inl, inr, length}
 use Rattle.std.specs.Prelude.{Option, None, Some, Ok, Err}
 use Rattle.lf_compile.specs.Accepted.{IsAccepted, IsCauseOf, IsAnswer}
 use Rattle.lf_compile.specs.declared.refused.Confusion.{Confusion}
@@ -32,12 +32,12 @@ use Rattle.lf_app.specs.Sides.{Gives}
 use Rattle.lf_translate.specs.Translations.{Plan, MapsBy}
 use Rattle.lf_app.specs.Commands.{IsRefusedFor, confused_command, IfAccepted, accepted, refused, BySide, faulty, given, AsksOf, AsksToMap, unmapped, mapped, AsksToTranslate, IsTranslation, AsksBy, AsksFor, IsLineFor, IsCommand, HasOneCommand}
 use Rattle.lf_app.specs.Progress.{IsReady, HasRecords}
-use Rattle.lf_app.proofs.SideLaws.{HasOneSide, SpelledKeeps, NarrowedKeeps, IsKept, gives_kept, side_tells}
+use Rattle.lf_app.proofs.SideLaws.{HasOneSide, SpelledKeeps, ToldKeeps, NarrowedKeeps, IsKept, gives_kept, side_tells}
 use Rattle.lf_json.proofs.Sorts.{record_json}
 
 -- Each side gives one format, or it is refused for one thing.
 abbrev pub SidesAreOne : Type 0
-SidesAreOne = (one : WhichSide) (side : Side) → HasOneSide one side
+SidesAreOne = (one : WhichSide) (two : Bool) (side : Side) → HasOneSide one two side
 
 -- Each format has one answer at most.
 abbrev pub AnswersOnce : Type 0
@@ -76,11 +76,11 @@ if_accepted_one once v format one a b (refused cause h d) (refused other k e) =
     refused_same v other a b (subst (λ (x : Refused). IsRefusedFor v x a) same d) e
 
 -- By a side one thing is asked for, where by each format one is.
-by_side_one : (one : WhichSide) (side : Side) (Asks : Shape → Command → Type 0) (a b : Command) → HasOneSide one side → ((format : Shape) (a b : Command) → Asks format a → Asks format b → a ≡ b) → BySide one side Asks a → BySide one side Asks b → a ≡ b
-by_side_one one side Asks a b sides each (faulty p f e) (faulty q g d) = e ∙ ap (λ (r : Refusal). Refuse r) (sides.one_refusal p q f g) ∙ sym d
-by_side_one one side Asks a b sides each (faulty p f e) (given g s h) = absurd (sides.not_both g p s f)
-by_side_one one side Asks a b sides each (given g s h) (faulty q f e) = absurd (sides.not_both g q s f)
-by_side_one one side Asks a b sides each (given g s h) (given f r k) =
+by_side_one : (one : WhichSide) (two : Bool) (side : Side) (Asks : Shape → Command → Type 0) (a b : Command) → HasOneSide one two side → ((format : Shape) (a b : Command) → Asks format a → Asks format b → a ≡ b) → BySide one two side Asks a → BySide one two side Asks b → a ≡ b
+by_side_one one two side Asks a b sides each (faulty p f e) (faulty q g d) = e ∙ ap (λ (r : Refusal). Refuse r) (sides.one_refusal p q f g) ∙ sym d
+by_side_one one two side Asks a b sides each (faulty p f e) (given g s h) = absurd (sides.not_both g p s f)
+by_side_one one two side Asks a b sides each (given g s h) (faulty q f e) = absurd (sides.not_both g q s f)
+by_side_one one two side Asks a b sides each (given g s h) (given f r k) =
     each f a b (subst (λ (x : Shape). Asks x a) (sides.one_format g f s r) h) k
 
 asks_of_one : AnswersOnce → (p : Purpose) (format : Shape) (a b : Command) → AsksOf p format a → AsksOf p format b → a ≡ b
@@ -107,10 +107,10 @@ to_map_one once plan a b (unmapped f p e) (mapped es q h) = absurd (not_both_ans
 to_map_one once plan a b (mapped es q h) (unmapped f p e) = absurd (not_both_answers es f (parses_one plan (Ok es) (Err f) q p))
 to_map_one once plan a b (mapped es q h) (mapped os p k) = if_accepted_one once verbs.Translate plan.source (Lines (jobs.Translate plan)) a b h k
 
-to_translate_one : AnswersOnce → SidesAreOne → (source to : Side) (map : List ℕ) (a b : Command) → AsksToTranslate source to map a → AsksToTranslate source to map b → a ≡ b
-to_translate_one once one source to map a b p q =
-    by_side_one which.Source source (λ from. BySide which.Target to (λ goal. AsksToMap (record { source = from; target = goal; map = map }))) a b (one which.Source source) (λ from a b p q.
-    by_side_one which.Target to (λ goal. AsksToMap (record { source = from; target = goal; map = map })) a b (one which.Target to) (λ goal a b p q.
+to_translate_one : AnswersOnce → SidesAreOne → (two : Bool) (source to : Side) (map : List ℕ) (a b : Command) → AsksToTranslate two source to map a → AsksToTranslate two source to map b → a ≡ b
+to_translate_one once one two source to map a b p q =
+    by_side_one which.Source two source (λ from. BySide which.Target false to (λ goal. AsksToMap (record { source = from; target = goal; map = map }))) a b (one which.Source two source) (λ from a b p q.
+    by_side_one which.Target false to (λ goal. AsksToMap (record { source = from; target = goal; map = map })) a b (one which.Target false to) (λ goal a b p q.
     to_map_one once (record { source = from; target = goal; map = map }) a b p q) p q) p q
 
 same_side : (a b : Side) → Some a ≡ Some b → a ≡ b
@@ -123,20 +123,20 @@ translation_one : AnswersOnce → SidesAreOne → (line : CommandLine) (a b : Co
 translation_one once one line a b p q =
     let to = same_side q.to p.to (sym q.target ∙ p.target) in
     let by = same_text q.by p.by (sym q.map ∙ p.map) in
-    let asks = subst (λ (x : List ℕ). AsksToTranslate line.source p.to x b) by (subst (λ (x : Side). AsksToTranslate line.source x q.by b) to q.asks) in
-    to_translate_one once one line.source p.to p.by a b p.asks asks
+    let asks = subst (λ (x : List ℕ). AsksToTranslate line.two line.source p.to x b) by (subst (λ (x : Side). AsksToTranslate line.two line.source x q.by b) to q.asks) in
+    to_translate_one once one line.two line.source p.to p.by a b p.asks asks
 
-source_one : AnswersOnce → SidesAreOne → (p : Purpose) (source : Side) (a b : Command) → BySide which.Source source (AsksOf p) a → BySide which.Source source (AsksOf p) b → a ≡ b
-source_one once one p source a b h g = by_side_one which.Source source (AsksOf p) a b (one which.Source source) (asks_of_one once p) h g
+source_one : AnswersOnce → SidesAreOne → (p : Purpose) (two : Bool) (source : Side) (a b : Command) → BySide which.Source two source (AsksOf p) a → BySide which.Source two source (AsksOf p) b → a ≡ b
+source_one once one p two source a b h g = by_side_one which.Source two source (AsksOf p) a b (one which.Source two source) (asks_of_one once p) h g
 
 -- A command line of a verb asks for one thing.
 asks_one : AnswersOnce → SidesAreOne → (v : Verb) (line : CommandLine) (a b : Command) → AsksBy v line a → AsksBy v line b → a ≡ b
-asks_one once one verbs.Check line a b p q = source_one once one purposes.Check line.source a b p q
-asks_one once one verbs.Read line a b p q = source_one once one purposes.Read line.source a b p q
-asks_one once one verbs.Write line a b p q = source_one once one purposes.Write line.source a b p q
-asks_one once one verbs.Show line a b p q = source_one once one purposes.Show line.source a b p q
+asks_one once one verbs.Check line a b p q = source_one once one purposes.Check line.two line.source a b p q
+asks_one once one verbs.Read line a b p q = source_one once one purposes.Read line.two line.source a b p q
+asks_one once one verbs.Write line a b p q = source_one once one purposes.Write line.two line.source a b p q
+asks_one once one verbs.Show line a b p q = source_one once one purposes.Show line.two line.source a b p q
 asks_one once one verbs.Translate line a b p q = translation_one once one line a b p q
-asks_one once one verbs.Gen line a b p q = source_one once one (purposes.Generate line.seed line.count) line.source a b p q
+asks_one once one verbs.Gen line a b p q = source_one once one (purposes.Generate line.seed line.count) line.two line.source a b p q
 
 abbrev pub LinesAreOne : Type 0
 LinesAreOne = (words : List (List ℕ)) → IsOneCommandOrBad words
@@ -186,8 +186,8 @@ if_accepted_some answers v format one kept =
     let answer = answers format kept.0 kept.1 in
     answered v format one answer.0 answer.1
 
-by_side_some : (one : WhichSide) (side : Side) (Asks : Shape → Command → Type 0) → HasOneSide one side → ((format : Shape) → Gives side format → (c : Command) × Asks format c) → (c : Command) × BySide one side Asks c
-by_side_some one side Asks sides each = elim sides.some [
+by_side_some : (one : WhichSide) (two : Bool) (side : Side) (Asks : Shape → Command → Type 0) → HasOneSide one two side → ((format : Shape) → Gives two side format → (c : Command) × Asks format c) → (c : Command) × BySide one two side Asks c
+by_side_some one two side Asks sides each = elim sides.some [
   | inl gives ↦ let asked = each gives.0 gives.1 in (asked.0, given gives.0 gives.1 asked.1)
   | inr fault ↦ (Refuse fault.0, faulty fault.0 fault.1 refl)
 ]
@@ -214,32 +214,33 @@ to_map_some answers maps plan kept =
 pub record Facts : Type 0 where
   pub sides : SidesAreOne
   pub spelled : SpelledKeeps
+  pub told : ToldKeeps
   pub narrowed : NarrowedKeeps
   pub answers : AnswersSome
   pub maps : MapsAreDecided
 
-source_some : Facts → (p : Purpose) (source : Side) → IsWord source.format → (c : Command) × BySide which.Source source (AsksOf p) c
-source_some facts p source word = by_side_some which.Source source (AsksOf p) (facts.sides which.Source source) (λ format gives.
-    asks_of_some facts.answers p format (gives_kept source format facts.spelled facts.narrowed word gives))
+source_some : Facts → (p : Purpose) (two : Bool) (source : Side) → IsWord source.format → (c : Command) × BySide which.Source two source (AsksOf p) c
+source_some facts p two source word = by_side_some which.Source two source (AsksOf p) (facts.sides which.Source two source) (λ format gives.
+    asks_of_some facts.answers p format (gives_kept two source format facts.spelled facts.told facts.narrowed word gives))
 
-to_translate_some : Facts → (source to : Side) (map : List ℕ) → IsWord source.format → (c : Command) × AsksToTranslate source to map c
-to_translate_some facts source to map word =
-    by_side_some which.Source source (λ from. BySide which.Target to (λ goal. AsksToMap (record { source = from; target = goal; map = map }))) (facts.sides which.Source source) (λ from gives.
-    by_side_some which.Target to (λ goal. AsksToMap (record { source = from; target = goal; map = map })) (facts.sides which.Target to) (λ goal other.
-    to_map_some facts.answers facts.maps (record { source = from; target = goal; map = map }) (gives_kept source from facts.spelled facts.narrowed word gives)))
+to_translate_some : Facts → (two : Bool) (source to : Side) (map : List ℕ) → IsWord source.format → (c : Command) × AsksToTranslate two source to map c
+to_translate_some facts two source to map word =
+    by_side_some which.Source two source (λ from. BySide which.Target false to (λ goal. AsksToMap (record { source = from; target = goal; map = map }))) (facts.sides which.Source two source) (λ from gives.
+    by_side_some which.Target false to (λ goal. AsksToMap (record { source = from; target = goal; map = map })) (facts.sides which.Target false to) (λ goal other.
+    to_map_some facts.answers facts.maps (record { source = from; target = goal; map = map }) (gives_kept two source from facts.spelled facts.told facts.narrowed word gives)))
 
 translation_some : Facts → (line : CommandLine) → IsWord line.source.format → HasTarget line → (c : Command) × IsTranslation line c
 translation_some facts line word t =
-    let asked = to_translate_some facts line.source t.to t.by word in
+    let asked = to_translate_some facts line.two line.source t.to t.by word in
     (asked.0, record { to = t.to; by = t.by; target = t.target; map = t.map; asks = asked.1 })
 
 some_asks : Facts → (v : Verb) (line : CommandLine) → IsWord line.source.format → (v ≡ verbs.Translate → HasTarget line) → (c : Command) × AsksBy v line c
-some_asks facts verbs.Check line word target = source_some facts purposes.Check line.source word
-some_asks facts verbs.Read line word target = source_some facts purposes.Read line.source word
-some_asks facts verbs.Write line word target = source_some facts purposes.Write line.source word
-some_asks facts verbs.Show line word target = source_some facts purposes.Show line.source word
+some_asks facts verbs.Check line word target = source_some facts purposes.Check line.two line.source word
+some_asks facts verbs.Read line word target = source_some facts purposes.Read line.two line.source word
+some_asks facts verbs.Write line word target = source_some facts purposes.Write line.two line.source word
+some_asks facts verbs.Show line word target = source_some facts purposes.Show line.two line.source word
 some_asks facts verbs.Translate line word target = translation_some facts line word (target refl)
-some_asks facts verbs.Gen line word target = source_some facts (purposes.Generate line.seed line.count) line.source word
+some_asks facts verbs.Gen line word target = source_some facts (purposes.Generate line.seed line.count) line.two line.source word
 
 some_command : (words : List (List ℕ)) → LinesAreOne → FormatsAreWords → TranslationsHaveTargets → Facts → (c : Command) × IsCommand words c
 some_command words lines formats targets facts = elim (lines words) [
@@ -285,9 +286,9 @@ if_ready : (v : Verb) (format : Shape) (one c : Command) → (IsAccepted format 
 if_ready v format one c ready (accepted h e) = subst IsReady (sym e) (ready h)
 if_ready v format one c ready (refused cause h e) = refused_ready v format cause c h e
 
-by_side_ready : (one : WhichSide) (side : Side) (Asks : Shape → Command → Type 0) (c : Command) → ((format : Shape) → Asks format c → IsReady c) → BySide one side Asks c → IsReady c
-by_side_ready one side Asks c each (faulty p f e) = subst IsReady (sym e) (side_tells one side p f)
-by_side_ready one side Asks c each (given format s h) = each format h
+by_side_ready : (one : WhichSide) (two : Bool) (side : Side) (Asks : Shape → Command → Type 0) (c : Command) → ((format : Shape) → Asks format c → IsReady c) → BySide one two side Asks c → IsReady c
+by_side_ready one two side Asks c each (faulty p f e) = subst IsReady (sym e) (side_tells one two side p f)
+by_side_ready one two side Asks c each (given format s h) = each format h
 
 asks_of_ready : (p : Purpose) (c : Command) (format : Shape) → AsksOf p format c → IsReady c
 asks_of_ready purposes.Check c format h = if_ready verbs.Check format (Readable (length (slots_in format.pieces))) c (λ a. tt) h
@@ -300,21 +301,21 @@ to_map_ready : (plan : Plan) (c : Command) → AsksToMap plan c → IsReady c
 to_map_ready plan c (unmapped f p e) = subst IsReady (sym e) tt
 to_map_ready plan c (mapped es p h) = if_ready verbs.Translate plan.source (Lines (jobs.Translate plan)) c (λ a. a.readable) h
 
-to_translate_ready : (source to : Side) (map : List ℕ) (c : Command) → AsksToTranslate source to map c → IsReady c
-to_translate_ready source to map c h =
-    by_side_ready which.Source source (λ from. BySide which.Target to (λ goal. AsksToMap (record { source = from; target = goal; map = map }))) c (λ from h.
-    by_side_ready which.Target to (λ goal. AsksToMap (record { source = from; target = goal; map = map })) c (λ goal h. to_map_ready (record { source = from; target = goal; map = map }) c h) h) h
+to_translate_ready : (two : Bool) (source to : Side) (map : List ℕ) (c : Command) → AsksToTranslate two source to map c → IsReady c
+to_translate_ready two source to map c h =
+    by_side_ready which.Source two source (λ from. BySide which.Target false to (λ goal. AsksToMap (record { source = from; target = goal; map = map }))) c (λ from h.
+    by_side_ready which.Target false to (λ goal. AsksToMap (record { source = from; target = goal; map = map })) c (λ goal h. to_map_ready (record { source = from; target = goal; map = map }) c h) h) h
 
-source_ready : (p : Purpose) (source : Side) (c : Command) → BySide which.Source source (AsksOf p) c → IsReady c
-source_ready p source c h = by_side_ready which.Source source (AsksOf p) c (asks_of_ready p c) h
+source_ready : (p : Purpose) (two : Bool) (source : Side) (c : Command) → BySide which.Source two source (AsksOf p) c → IsReady c
+source_ready p two source c h = by_side_ready which.Source two source (AsksOf p) c (asks_of_ready p c) h
 
 asks_ready : (v : Verb) (line : CommandLine) (c : Command) → AsksBy v line c → IsReady c
-asks_ready verbs.Check line c h = source_ready purposes.Check line.source c h
-asks_ready verbs.Read line c h = source_ready purposes.Read line.source c h
-asks_ready verbs.Write line c h = source_ready purposes.Write line.source c h
-asks_ready verbs.Show line c h = source_ready purposes.Show line.source c h
-asks_ready verbs.Translate line c h = to_translate_ready line.source h.to h.by c h.asks
-asks_ready verbs.Gen line c h = source_ready (purposes.Generate line.seed line.count) line.source c h
+asks_ready verbs.Check line c h = source_ready purposes.Check line.two line.source c h
+asks_ready verbs.Read line c h = source_ready purposes.Read line.two line.source c h
+asks_ready verbs.Write line c h = source_ready purposes.Write line.two line.source c h
+asks_ready verbs.Show line c h = source_ready purposes.Show line.two line.source c h
+asks_ready verbs.Translate line c h = to_translate_ready line.two line.source h.to h.by c h.asks
+asks_ready verbs.Gen line c h = source_ready (purposes.Generate line.seed line.count) line.two line.source c h
 
 -- A command that words are can be done.
 pub command_ready : (words : List (List ℕ)) (c : Command) → IsCommand words c → IsReady c
@@ -353,9 +354,9 @@ if_keeps : (v : Verb) (format : Shape) (one c : Command) → KeepsBytes one → 
 if_keeps v format one c keeps (accepted h e) = subst KeepsBytes (sym e) keeps
 if_keeps v format one c keeps (refused cause h e) = refused_keeps v cause c e
 
-by_side_keeps : (one : WhichSide) (side : Side) (Asks : Shape → Command → Type 0) (c : Command) → ((format : Shape) → Gives side format → Asks format c → KeepsBytes c) → BySide one side Asks c → KeepsBytes c
-by_side_keeps one side Asks c each (faulty p f e) = subst KeepsBytes (sym e) tt
-by_side_keeps one side Asks c each (given format s h) = each format s h
+by_side_keeps : (one : WhichSide) (two : Bool) (side : Side) (Asks : Shape → Command → Type 0) (c : Command) → ((format : Shape) → Gives two side format → Asks format c → KeepsBytes c) → BySide one two side Asks c → KeepsBytes c
+by_side_keeps one two side Asks c each (faulty p f e) = subst KeepsBytes (sym e) tt
+by_side_keeps one two side Asks c each (given format s h) = each format s h
 
 asks_of_keeps : (p : Purpose) (c : Command) (format : Shape) → IsKept format → AsksOf p format c → KeepsBytes c
 asks_of_keeps purposes.Check c format kept h = if_keeps verbs.Check format (Readable (length (slots_in format.pieces))) c tt h
@@ -368,25 +369,25 @@ to_map_keeps : (plan : Plan) (c : Command) → IsKept plan.source → AsksToMap 
 to_map_keeps plan c kept (unmapped f p e) = subst KeepsBytes (sym e) tt
 to_map_keeps plan c kept (mapped es p h) = if_keeps verbs.Translate plan.source (Lines (jobs.Translate plan)) c (record { kept = kept; exprs = es; maps = p }) h
 
-module _ (spelled : SpelledKeeps) (narrowed : NarrowedKeeps) where
-  source_keeps : (p : Purpose) (source : Side) (c : Command) → IsWord source.format → BySide which.Source source (AsksOf p) c → KeepsBytes c
-  source_keeps p source c word h =
-      by_side_keeps which.Source source (AsksOf p) c (λ format gives asks. asks_of_keeps p c format (gives_kept source format spelled narrowed word gives) asks) h
+module _ (spelled : SpelledKeeps) (told : ToldKeeps) (narrowed : NarrowedKeeps) where
+  source_keeps : (p : Purpose) (two : Bool) (source : Side) (c : Command) → IsWord source.format → BySide which.Source two source (AsksOf p) c → KeepsBytes c
+  source_keeps p two source c word h =
+      by_side_keeps which.Source two source (AsksOf p) c (λ format gives asks. asks_of_keeps p c format (gives_kept two source format spelled told narrowed word gives) asks) h
 
-  to_translate_keeps : (source to : Side) (map : List ℕ) (c : Command) → IsWord source.format → AsksToTranslate source to map c → KeepsBytes c
-  to_translate_keeps source to map c word h =
-      by_side_keeps which.Source source (λ from. BySide which.Target to (λ goal. AsksToMap (record { source = from; target = goal; map = map }))) c (λ from gives h.
-      by_side_keeps which.Target to (λ goal. AsksToMap (record { source = from; target = goal; map = map })) c (λ goal other h.
-      to_map_keeps (record { source = from; target = goal; map = map }) c (gives_kept source from spelled narrowed word gives) h) h) h
+  to_translate_keeps : (two : Bool) (source to : Side) (map : List ℕ) (c : Command) → IsWord source.format → AsksToTranslate two source to map c → KeepsBytes c
+  to_translate_keeps two source to map c word h =
+      by_side_keeps which.Source two source (λ from. BySide which.Target false to (λ goal. AsksToMap (record { source = from; target = goal; map = map }))) c (λ from gives h.
+      by_side_keeps which.Target false to (λ goal. AsksToMap (record { source = from; target = goal; map = map })) c (λ goal other h.
+      to_map_keeps (record { source = from; target = goal; map = map }) c (gives_kept two source from spelled told narrowed word gives) h) h) h
 
   asks_keep : (v : Verb) (line : CommandLine) (c : Command) → IsWord line.source.format → AsksBy v line c → KeepsBytes c
-  asks_keep verbs.Check line c word h = source_keeps purposes.Check line.source c word h
-  asks_keep verbs.Read line c word h = source_keeps purposes.Read line.source c word h
-  asks_keep verbs.Write line c word h = source_keeps purposes.Write line.source c word h
-  asks_keep verbs.Show line c word h = source_keeps purposes.Show line.source c word h
-  asks_keep verbs.Translate line c word h = to_translate_keeps line.source h.to h.by c word h.asks
-  asks_keep verbs.Gen line c word h = source_keeps (purposes.Generate line.seed line.count) line.source c word h
+  asks_keep verbs.Check line c word h = source_keeps purposes.Check line.two line.source c word h
+  asks_keep verbs.Read line c word h = source_keeps purposes.Read line.two line.source c word h
+  asks_keep verbs.Write line c word h = source_keeps purposes.Write line.two line.source c word h
+  asks_keep verbs.Show line c word h = source_keeps purposes.Show line.two line.source c word h
+  asks_keep verbs.Translate line c word h = to_translate_keeps line.two line.source h.to h.by c word h.asks
+  asks_keep verbs.Gen line c word h = source_keeps (purposes.Generate line.seed line.count) line.two line.source c word h
 
-pub command_keeps : (words : List (List ℕ)) (c : Command) → FormatsAreWords → SpelledKeeps → NarrowedKeeps → IsCommand words c → KeepsBytes c
-command_keeps words c formats spelled narrowed (inl bad) = subst KeepsBytes (sym bad.1) tt
-command_keeps words c formats spelled narrowed (inr h) = asks_keep spelled narrowed h.line.verb h.line c (formats words h.line h.is) h.asks
+pub command_keeps : (words : List (List ℕ)) (c : Command) → FormatsAreWords → SpelledKeeps → ToldKeeps → NarrowedKeeps → IsCommand words c → KeepsBytes c
+command_keeps words c formats spelled told narrowed (inl bad) = subst KeepsBytes (sym bad.1) tt
+command_keeps words c formats spelled told narrowed (inr h) = asks_keep spelled told narrowed h.line.verb h.line c (formats words h.line h.is) h.asks

@@ -8,9 +8,8 @@ use Rattle.lf_format.specs.declared.format.Piece.{Piece}
 use Rattle.lf_format.specs.Keeps.{EachKept}
 use Rattle.lf_expression.specs.Exprs.{Expr}
 use Rattle.lf_map.specs.Filling.{ParsesMap}
-use Rattle.lf_map.specs.Mapped.{Makes}
-use Rattle.lf_map.specs.declared.mapping.Mapped.{Mapped}
-use Rattle.lf_map.specs.declared.mapping.Mapped.TheVariants as mapped
+use Rattle.lf_map.specs.Mapped.{Mapped, Makes}
+use Rattle.lf_map.specs.Mapped as mapped
 use Rattle.lf_machine.specs.LineBytes.{LiteralsAreBytes}
 use Rattle.lf_json.specs.Reading.{ReadsJson}
 use Rattle.lf_json.specs.declared.bad_record.BadRecord.{BadRecord}
@@ -33,7 +32,7 @@ use Rattle.lf_translate.specs.Translations.{Plan, TurnsTo}
 use Rattle.lf_app.specs.Verdicts.{has_notes, IsFound, IsVerdict, AreVerdicts}
 use Rattle.lf_app.proofs.VerdictLaws.{one_verdict}
 use Rattle.lf_app.proofs.CommandLaws.{FormatsAreWords, KeepsBytes, command_ready, command_keeps}
-use Rattle.lf_app.proofs.SideLaws.{SpelledKeeps, NarrowedKeeps}
+use Rattle.lf_app.proofs.SideLaws.{SpelledKeeps, ToldKeeps, NarrowedKeeps}
 use Rattle.lf_log.proofs.Drawing.{DrawsOne, DrawsSome, one_summary, some_summary}
 use Rattle.lf_app.proofs.Drawing.{told_generated}
 use Rattle.lf_app.proofs.RunLaws.{IsTold, told_readable, told_witness, told_shown, told_refused}
@@ -100,17 +99,17 @@ same_verdicts job (line ∷ lines) (v ∷ vs) (w ∷ ws) can p q =
 told_once : (c : Command) (input : List ℕ) (o : Outcome) → IsTold c o → HasOneOutcome c input
 told_once c input o told = record { outcome = o; has = told.has input; only = told.only input }
 
-pub one_outcome : (words : List (List ℕ)) (command : Command) (input : List ℕ) → LinesAreRead → LinesAreDecided → MapsMake → DrawsOne → DrawsSome → FormatsAreWords → SpelledKeeps → NarrowedKeeps → IsCommand words command → HasOneOutcome command input
-one_outcome words (Readable slots) input reads decided makes once draws formats spelled narrowed is = told_once (Readable slots) input _ (told_readable slots)
-one_outcome words (Witness confusion) input reads decided makes once draws formats spelled narrowed is = told_once (Witness confusion) input _ (told_witness confusion)
-one_outcome words (Show format) input reads decided makes once draws formats spelled narrowed is = told_once (Show format) input (shown format) (told_shown format)
-one_outcome words (Generate format seed count) input reads decided makes once draws formats spelled narrowed is =
-    let kept = command_keeps words (Generate format seed count) formats spelled narrowed is in
+pub one_outcome : (words : List (List ℕ)) (command : Command) (input : List ℕ) → LinesAreRead → LinesAreDecided → MapsMake → DrawsOne → DrawsSome → FormatsAreWords → SpelledKeeps → ToldKeeps → NarrowedKeeps → IsCommand words command → HasOneOutcome command input
+one_outcome words (Readable slots) input reads decided makes once draws formats spelled told narrowed is = told_once (Readable slots) input _ (told_readable slots)
+one_outcome words (Witness confusion) input reads decided makes once draws formats spelled told narrowed is = told_once (Witness confusion) input _ (told_witness confusion)
+one_outcome words (Show format) input reads decided makes once draws formats spelled told narrowed is = told_once (Show format) input (shown format) (told_shown format)
+one_outcome words (Generate format seed count) input reads decided makes once draws formats spelled told narrowed is =
+    let kept = command_keeps words (Generate format seed count) formats spelled told narrowed is in
     let some = some_summary draws format seed count kept.0 in
     told_once (Generate format seed count) input _ (told_generated format seed count some.0 some.1 (one_summary once format seed count))
-one_outcome words (Refuse refusal) input reads decided makes once draws formats spelled narrowed is = told_once (Refuse refusal) input _ (told_refused refusal)
-one_outcome words (Lines job) input reads decided makes once draws formats spelled narrowed is =
-    let kept = command_keeps words (Lines job) formats spelled narrowed is in
+one_outcome words (Refuse refusal) input reads decided makes once draws formats spelled told narrowed is = told_once (Refuse refusal) input _ (told_refused refusal)
+one_outcome words (Lines job) input reads decided makes once draws formats spelled told narrowed is =
+    let kept = command_keeps words (Lines job) formats spelled told narrowed is in
     let ready = command_ready words (Lines job) is in
     let found = some_verdicts job (lines_of (has_notes job) input) reads decided makes kept in
     record {

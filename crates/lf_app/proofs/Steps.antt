@@ -3,15 +3,15 @@ use Rattle.std.proofs.Common.{◌≡◌, ℕ, ◌+◌, ◌-◌, ◌<◌, Bool, t
 use Rattle.std.specs.Prelude.{slice_get, Option, Some, None}
 use Rattle.std.proofs.lemmas.List.{append-nil}
 use Rattle.lf_stream.specs.Cut.{known_lines}
-use Rattle.lf_stream.specs.Marks.{IsBody, IsNext}
+use Rattle.lf_stream.specs.Marks.{IsNext}
 use Rattle.lf_stream.specs.Standing.{Stands, SameStream, MovesOn, HasRoomAtNone, one_if_some, is_finished, bytes_fed, has_notes as may_have_notes}
 use Rattle.lf_stream.specs.declared.lines.Lines.{Lines as Cutter}
 use Rattle.lf_stream.specs.declared.marks.Numbered.{Numbered}
 use Rattle.lf_app.specs.declared.commands.Job.{Job}
 use Rattle.lf_app.specs.declared.report.Report.{Report}
 use Rattle.lf_app.specs.declared.verdict.Verdict.{Verdict}
-use Rattle.lf_app.specs.Progress.{Holds, IsReading, HasRead, Reports, ReadsOn, ReadsNext, Grows}
-use Rattle.lf_app.specs.Verdicts.{has_notes, IsVerdict, AreVerdicts}
+use Rattle.lf_app.specs.Progress.{Holds, IsReading, HasRead, Reports, ReadsOn, ReadsNext, Grows, Says}
+use Rattle.lf_app.specs.Verdicts.{has_notes, AreVerdicts}
 use Rattle.lf_app.proofs.LineLaws.{known_grow, few_known}
 use Rattle.lf_app.proofs.VerdictLaws.{verdicts_append, verdicts_length, reports_both, reports_none}
 
@@ -48,11 +48,12 @@ holds_on job over before after old new stream found later h moves count = record
 }
 
 -- The next line is read.
-pub next_read : (job : Job) (over : Bool) (before after : Cutter) (old new : Report) (stream : List ℕ) (found : List Verdict) (next : Numbered) (said : Verdict) → IsReading job over before old stream found → IsNext (may_have_notes before) (known_lines (is_finished before) (may_have_notes before) stream) (length found) (Some next) → (answer : Option Numbered) → answer ≡ Some next → MovesOn before after (one_if_some answer) → ((line : List ℕ) → IsBody (has_notes job) line next.body → IsVerdict job line said) → Reports job old new next.number (said ∷ []) → new.count ≡ next.number → ReadsNext true job over after old new stream found
-next_read job over before after old new stream found next said r is answer some moved verdict reports count =
+pub next_read : (job : Job) (over : Bool) (before after : Cutter) (old new : Report) (stream : List ℕ) (found : List Verdict) (next : Numbered) → IsReading job over before old stream found → IsNext (may_have_notes before) (known_lines (is_finished before) (may_have_notes before) stream) (length found) (Some next) → (answer : Option Numbered) → answer ≡ Some next → MovesOn before after (one_if_some answer) → Says job next.body next.number old new → new.count ≡ next.number → ReadsNext true job over after old new stream found
+next_read job over before after old new stream found next r is answer some moved says count =
     let moves = subst (λ (o : Option Numbered). MovesOn before after (one_if_some o)) some moved in
     let here = next_known job over before old stream found (Some next) r is in
     let line = here.0 in
+    let (said, verdict, reports) = says line here.3 in
     let behind = at_front r.given r.later (length found) line (given_length job over before old stream found r) here.1 in
     let number : next.number ≡ length found + 1 = here.2 in
     let counted : new.count ≡ length (found ++ said ∷ []) = omega (arith, count, number, length-append found (said ∷ [])) in (
@@ -62,7 +63,7 @@ next_read job over before after old new stream found next said r is answer some 
         given = r.given ++ line ∷ [];
         later = behind.0;
         known = r.known ∙ ap (λ (ls : List (List ℕ)). r.given ++ ls) behind.1 ∙ sym (append_assoc r.given (line ∷ []) behind.0);
-        verdicts = verdicts_append job r.given (line ∷ []) found (said ∷ []) r.verdicts (verdict line here.3, tt);
+        verdicts = verdicts_append job r.given (line ∷ []) found (said ∷ []) r.verdicts (verdict, tt);
       },
       subst (λ (n : ℕ). Reports job old new n (said ∷ [])) number reports,
     )

@@ -18,15 +18,20 @@ use Rattle.lf_format.specs.Lines.{IsReadable, line_text}
 use Rattle.lf_expression.specs.Exprs.{Expr}
 use Rattle.lf_map.specs.Filling.{Answer, blank}
 use Rattle.lf_map.specs.Letters.{parts_of}
-use Rattle.lf_map.specs.Mapped.{Makes}
-use Rattle.lf_map.specs.declared.mapping.Mapped.{Mapped}
-use Rattle.lf_map.specs.declared.mapping.Mapped.TheVariants as mapped
+use Rattle.lf_map.specs.Mapped.{Mapped, Makes}
+use Rattle.lf_map.specs.Mapped as mapped
 use Rattle.lf_map.proofs.Answered.{answer_one}
 use Rattle.lf_map.proofs.Records.{mapped_one}
 use Rattle.lf_translate.specs.Translations.{Plan, MapsBy, TurnsTo}
 use Rattle.lf_json.proofs.OneReading.{one_reading}
 use Rattle.lf_app.specs.declared.report.Report.{Report}
-use Rattle.lf_app.specs.Progress.{CanWork, Reports}
+use Rattle.lf_scan.specs.Reads.{ReadsLine}
+use Rattle.lf_stream.specs.Marks.{IsBody}
+use Rattle.lf_stream.specs.declared.marks.Body.{Body}
+use Rattle.lf_format.specs.Lines.{Prints}
+use Rattle.lf_format.specs.Shape.{Shape}
+use Rattle.lf_json.specs.Text.{json_text}
+use Rattle.lf_app.specs.Progress.{CanWork, Reports, SameTexts, Says}
 use Rattle.lf_app.proofs.Equality.{same_record}
 use Rattle.lf_app.specs.Verdicts.{has_notes, IsFound, IsVerdict, AreVerdicts, out_of, err_of, out_text, err_text, is_listed, any_listed}
 
@@ -177,3 +182,30 @@ reports_both job a b c n vs ws p q = record {
   out = rw (q.out, p.out, out_append job vs ws) (append_assoc a.out (out_text job vs) (out_text job ws));
   err = rw (q.err, p.err, err_append n vs ws) (append_assoc a.err (err_text n vs) (err_text (n + length vs) ws));
 }
+
+-- What is written of a line that was scanned is what is written of its record.
+pub scanned : (format : Shape) (text line mid : List ℕ) (n : ℕ) (old new : Report) → sort_of format.notes line ≡ sort.Line → text ≡ line → ReadsLine format.pieces text old.out mid
+    → new.is_partial ≡ old.is_partial → new.out ≡ mid ++ 10 ∷ [] → new.err ≡ old.err
+    → (v : Verdict) × IsVerdict (jobs.Read format) line v × Reports (jobs.Read format) old new n (v ∷ [])
+scanned format text line mid n old new is same reads listed out err =
+    let json = json_text reads.rec in (
+      Found (Read reads.rec),
+      (is, subst (λ zs. Prints format.pieces reads.rec zs) same reads.prints),
+      record {
+        listed = listed ∙ sym (or_false old.is_partial);
+        out = out ∙ ap (λ zs. zs ++ 10 ∷ []) reads.added ∙ append_assoc old.out json (10 ∷ []) ∙ ap (λ zs. old.out ++ zs) (sym (append-nil (json ++ 10 ∷ [])));
+        err = err ∙ sym (append-nil old.err);
+      },
+    )
+
+-- Where nothing was written before the verdict, it is all that is written.
+pub says_after : (job : Job) (body : Body) (n : ℕ) (old mid new : Report) (said : Verdict) → SameTexts old mid → ((line : List ℕ) → IsBody (has_notes job) line body → IsVerdict job line said) → Reports job mid new n (said ∷ []) → Says job body n old new
+says_after job body n old mid new said same verdict r = λ line is. (
+  said,
+  verdict line is,
+  record {
+    listed = r.listed ∙ ap (λ b. b || any_listed (said ∷ [])) same.listed;
+    out = r.out ∙ ap (λ zs. zs ++ out_text job (said ∷ [])) same.out;
+    err = r.err ∙ ap (λ zs. zs ++ err_text n (said ∷ [])) same.err;
+  },
+)

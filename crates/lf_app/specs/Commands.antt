@@ -1,5 +1,5 @@
 -- What a command line asks for.
-use Rattle.std.specs.Prelude.{◌≡◌, ℕ, ◌⊎◌, List, length, Some, Err}
+use Rattle.std.specs.Prelude.{◌≡◌, ℕ, ◌⊎◌, List, length, Bool, false, Some, Err}
 use Rattle.lf_compile.specs.Accepted.{IsAccepted, IsCauseOf}
 use Rattle.lf_compile.specs.declared.refused.Confusion.{Confusion}
 use Rattle.lf_compile.specs.declared.refused.Refused.{Refused}
@@ -49,9 +49,9 @@ pub data IfAccepted (verb : Verb) (format : Shape) (one command : Command) : Typ
   refused : (cause : Refused) → IsCauseOf format cause → IsRefusedFor verb cause command → IfAccepted verb format one command
 
 -- A side gives a format, and by it this is asked for; or the side is refused.
-pub data BySide (which : WhichSide) (side : Side) (Asks : Shape → Command → Type 0) (command : Command) : Type 0 where
-  faulty : (refusal : Refusal) → IsFaultySide which side refusal → command ≡ Refuse refusal → BySide which side Asks command
-  given : (format : Shape) → Gives side format → Asks format command → BySide which side Asks command
+pub data BySide (which : WhichSide) (two : Bool) (side : Side) (Asks : Shape → Command → Type 0) (command : Command) : Type 0 where
+  faulty : (refusal : Refusal) → IsFaultySide which two side refusal → command ≡ Refuse refusal → BySide which two side Asks command
+  given : (format : Shape) → Gives two side format → Asks format command → BySide which two side Asks command
 
 -- For this purpose this is asked for by a format. `write` and `show` take each format, readable or not.
 abbrev pub AsksOf : Purpose → Shape → Command → Type 0
@@ -72,10 +72,11 @@ pub data AsksToMap (plan : Plan) (command : Command) : Type 0 where
   unmapped : (fault : MapFault) → ParsesMap plan.map plan.source plan.target (Err fault) → command ≡ Refuse (refusals.BadMap fault) → AsksToMap plan command
   mapped : (exprs : List Expr) → MapsBy plan exprs → IfAccepted verbs.Translate plan.source (Lines (Translate plan)) command → AsksToMap plan command
 
--- A translation asks for this: first the source is looked at, then the target, then the map.
-abbrev pub AsksToTranslate : Side → Side → List ℕ → Command → Type 0
-AsksToTranslate source target map command =
-    BySide Source source (λ from. BySide Target target (λ to. AsksToMap (record { source = from; target = to; map = map }))) command
+-- A translation asks for this: first the source is looked at, then the target, then the map. In a target, absence and a
+-- lone dash are always one value.
+abbrev pub AsksToTranslate : Bool → Side → Side → List ℕ → Command → Type 0
+AsksToTranslate two source target map command =
+    BySide Source two source (λ from. BySide Target false target (λ to. AsksToMap (record { source = from; target = to; map = map }))) command
 
 -- The command line has a target and a map, and by them this is asked for.
 pub record IsTranslation (line : CommandLine) (command : Command) : Type 0 where
@@ -83,16 +84,16 @@ pub record IsTranslation (line : CommandLine) (command : Command) : Type 0 where
   pub by : List ℕ
   pub target : line.target ≡ Some to
   pub map : line.map ≡ Some by
-  pub asks : AsksToTranslate line.source to by command
+  pub asks : AsksToTranslate line.two line.source to by command
 
 -- A command line of the verb asks for this.
 abbrev pub AsksBy : Verb → CommandLine → Command → Type 0
-AsksBy verbs.Check line command = BySide Source line.source (AsksOf purposes.Check) command
-AsksBy verbs.Read line command = BySide Source line.source (AsksOf purposes.Read) command
-AsksBy verbs.Write line command = BySide Source line.source (AsksOf purposes.Write) command
-AsksBy verbs.Show line command = BySide Source line.source (AsksOf purposes.Show) command
+AsksBy verbs.Check line command = BySide Source line.two line.source (AsksOf purposes.Check) command
+AsksBy verbs.Read line command = BySide Source line.two line.source (AsksOf purposes.Read) command
+AsksBy verbs.Write line command = BySide Source line.two line.source (AsksOf purposes.Write) command
+AsksBy verbs.Show line command = BySide Source line.two line.source (AsksOf purposes.Show) command
 AsksBy verbs.Translate line command = IsTranslation line command
-AsksBy verbs.Gen line command = BySide Source line.source (AsksOf (purposes.Generate line.seed line.count)) command
+AsksBy verbs.Gen line command = BySide Source line.two line.source (AsksOf (purposes.Generate line.seed line.count)) command
 
 -- A command line asks for this.
 abbrev pub AsksFor : CommandLine → Command → Type 0

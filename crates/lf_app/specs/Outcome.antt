@@ -115,7 +115,7 @@ kind_text sort.Clock = codes "clock"
 abbrev pub absent_text : Absent → List ℕ
 absent_text absent.No = codes "no"
 absent_text absent.Dash = codes "dash"
-absent_text absent.DashTwo = codes "dash"
+absent_text absent.DashTwo = codes "dash-two"
 absent_text absent.Blank = codes "blank"
 
 -- what is shown of the slot of this number: number, name, sort of values, and how a missing one is printed

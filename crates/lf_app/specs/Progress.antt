@@ -1,5 +1,5 @@
 -- How far the lines of a stream are read.
-use Rattle.std.specs.Prelude.{◌≡◌, ℕ, ◌+◌, ◌≤◌, Bool, false, ◌||◌, cond, List, [], ◌∷◌, ◌++◌, length, All}
+use Rattle.std.specs.Prelude.{◌≡◌, ℕ, ◌+◌, ◌≤◌, Bool, true, false, ◌||◌, cond, List, [], ◌∷◌, ◌++◌, length, All}
 use Rattle.lf_compile.specs.declared.refused.Confusion.{Confusion}
 use Rattle.lf_format.specs.Lines.{IsReadable}
 use Rattle.lf_json.specs.Text.{HasJson}
@@ -15,7 +15,9 @@ use Rattle.lf_app.specs.declared.commands.Refusal.{Refusal}
 use Rattle.lf_app.specs.declared.commands.Refusal.TheVariants as refusals
 use Rattle.lf_app.specs.declared.report.Report.{Report}
 use Rattle.lf_app.specs.declared.verdict.Verdict.{Verdict}
-use Rattle.lf_app.specs.Verdicts.{AreVerdicts, has_notes, out_text, err_text, any_listed}
+use Rattle.lf_stream.specs.Marks.{IsBody}
+use Rattle.lf_stream.specs.declared.marks.Body.{Body}
+use Rattle.lf_app.specs.Verdicts.{IsVerdict, AreVerdicts, has_notes, out_text, err_text, any_listed}
 
 -- What was fed is this stream, which has ended or not, and what is reported is as many lines of it as were given.
 pub record Holds (job : Job) (over : Bool) (lines : Cutter) (report : Report) (stream : List ℕ) (found : List Verdict) : Type 0 where
@@ -51,6 +53,21 @@ pub record Reports (job : Job) (old new : Report) (n : ℕ) (more : List Verdict
   pub listed : new.is_partial ≡ (old.is_partial || any_listed more)
   pub out : new.out ≡ old.out ++ out_text job more
   pub err : new.err ≡ old.err ++ err_text n more
+
+-- Whatever line it is that this is told of, the report has grown by a verdict of it, at this number.
+abbrev pub Says : Job → Body → ℕ → Report → Report → Type 0
+Says job body n old new = (line : List ℕ) → IsBody (has_notes job) line body → (v : Verdict) × IsVerdict job line v × Reports job old new n (v ∷ [])
+
+-- Nothing more is to be written.
+pub record SameTexts (old new : Report) : Type 0 where
+  pub listed : new.is_partial ≡ old.is_partial
+  pub out : new.out ≡ old.out
+  pub err : new.err ≡ old.err
+
+-- The line was scanned, and the report has grown by its record; or it wasn't, and nothing more is to be written.
+abbrev pub IsScanned : Job → Body → ℕ → Report → Report → Bool → Type 0
+IsScanned job body n old new true = Says job body n old new × (new.count ≡ n)
+IsScanned job body n old new false = SameTexts old new
 
 -- More lines were read, and the report has grown by what was found of them.
 pub record ReadsOn (job : Job) (over : Bool) (lines : Cutter) (old new : Report) (stream : List ℕ) (found : List Verdict) : Type 0 where

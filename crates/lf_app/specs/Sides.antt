@@ -1,7 +1,8 @@
 -- The format that a side of a command line gives, or why it is refused.
-use Rattle.std.specs.Prelude.{◌≡◌, ℕ, ◌≤◌, List, length, Option, None, Some}
+use Rattle.std.specs.Prelude.{◌≡◌, ℕ, ◌≤◌, List, length, Bool, true, false, Option, None, Some}
 use Rattle.std.specs.Option.{ForSome}
 use Rattle.lf_format.specs.Shape.{Shape}
+use Rattle.lf_format.specs.Two.{with_two}
 use Rattle.lf_fronts.specs.Fronts.{Spells, IsFaulty}
 use Rattle.lf_limits.specs.Limits.{most_text_bytes}
 use Rattle.lf_narrow.specs.Narrowed.{NarrowsTo, IsFaulty as IsFaultyNarrowing}
@@ -15,6 +16,11 @@ use Rattle.lf_app.specs.declared.commands.WhichSide.{WhichSide}
 use Rattle.lf_app.specs.declared.sides.SideFault.{SideFault}
 use Rattle.lf_app.specs.declared.sides.SideFault.TheVariants as side_fault
 
+-- what is narrowed: the format as spelled, or with a lone dash told from absence where that is asked for
+abbrev pub dash_apart : Bool → Shape → Shape
+dash_apart true spelled = with_two spelled
+dash_apart false spelled = spelled
+
 -- The narrowing, where one is given, leaves this of the format.
 abbrev pub Leaves : Option (List ℕ) → Shape → Shape → Type 0
 Leaves None spelled format = format ≡ spelled
@@ -25,16 +31,17 @@ abbrev pub HasFault : Option (List ℕ) → Shape → NarrowFault → Type 0
 HasFault None spelled fault = ⊥
 HasFault (Some text) spelled fault = IsFaultyNarrowing spelled text fault
 
--- The side gives this format: its text spells one, and its narrowing leaves this of it.
-pub record Gives (side : Side) (format : Shape) : Type 0 where
+-- The side gives this format, with a lone dash told from absence or not: its text spells one, and its narrowing leaves
+-- this of that.
+pub record Gives (two : Bool) (side : Side) (format : Shape) : Type 0 where
   pub spelled : Shape
   pub spells : Spells side.front side.format spelled
-  pub left : Leaves side.narrow spelled format
+  pub left : Leaves side.narrow (dash_apart two spelled) format
 
 -- The side is refused for this: its text has a fault, or it spells a format with which the narrowing has one.
-pub data IsFaultySide (which : WhichSide) (side : Side) (refusal : Refusal) : Type 0 where
-  misspelled : (place : ℕ) (cause : Cause) → IsFaulty side.front side.format place cause → refusal ≡ BadFormat which place cause → IsFaultySide which side refusal
-  misnarrowed : (spelled : Shape) (fault : NarrowFault) → Spells side.front side.format spelled → HasFault side.narrow spelled fault → refusal ≡ BadNarrowing which fault → IsFaultySide which side refusal
+pub data IsFaultySide (which : WhichSide) (two : Bool) (side : Side) (refusal : Refusal) : Type 0 where
+  misspelled : (place : ℕ) (cause : Cause) → IsFaulty side.front side.format place cause → refusal ≡ BadFormat which place cause → IsFaultySide which two side refusal
+  misnarrowed : (spelled : Shape) (fault : NarrowFault) → Spells side.front side.format spelled → HasFault side.narrow (dash_apart two spelled) fault → refusal ≡ BadNarrowing which fault → IsFaultySide which two side refusal
 
 -- The texts of the side are within the limit.
 pub record IsShort (side : Side) : Type 0 where
@@ -47,9 +54,9 @@ side_fault_of which fault.OutOfMemory = side_fault.OutOfMemory
 side_fault_of which why = side_fault.Refused (BadNarrowing which why)
 
 -- The side is refused for the fault, or memory ran out.
-abbrev pub IsSideFault : WhichSide → Side → SideFault → Type 0
-IsSideFault which side (side_fault.Refused refusal) = IsFaultySide which side refusal
-IsSideFault which side side_fault.OutOfMemory = Unit {0}
+abbrev pub IsSideFault : WhichSide → Bool → Side → SideFault → Type 0
+IsSideFault which two side (side_fault.Refused refusal) = IsFaultySide which two side refusal
+IsSideFault which two side side_fault.OutOfMemory = Unit {0}
 
 -- The narrowing has the fault, or memory ran out.
 abbrev pub IsNarrowingFault : WhichSide → Option (List ℕ) → Shape → SideFault → Type 0

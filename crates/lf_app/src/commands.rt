@@ -1,6 +1,6 @@
 //! What a command line asks for, or why it is refused.
 
-ghost use Rattle.std.specs.Prelude.{◌≡◌, ◌≤◌, length, IfOk};
+ghost use Rattle.std.specs.Prelude.{◌≡◌, ◌≤◌, length, false, IfOk};
 ghost use Rattle.lf_format.specs.Keeps.{slots_in};
 ghost use Rattle.lf_limits.specs.Limits.{most_text_bytes};
 ghost use Rattle.lf_map.specs.Filling.{IsMapOf};
@@ -182,11 +182,16 @@ fn ask(alloc: Global, purpose: Purpose, format: Format) -> Result<Command, OutOf
 }
 
 /// What is asked for by a source for this purpose.
-fn read_source(alloc: Global, purpose: Purpose, source: &Side) -> Result<Command, OutOfMemory>
+fn read_source(
+    alloc: Global,
+    purpose: Purpose,
+    two: bool,
+    source: &Side,
+) -> Result<Command, OutOfMemory>
     requires { IsShort source.now }
-    ensures { IfOk result (BySide which.Source source.now (AsksOf purpose)) }
+    ensures { IfOk result (BySide which.Source two source.now (AsksOf purpose)) }
 {
-    match read_side(alloc, WhichSide::Source, source) {
+    match read_side(alloc, WhichSide::Source, two, source) {
         Ok(format) => ask(alloc, purpose, format),
         Err(SideFault::Refused(refusal)) => Ok(Command::Refuse(refusal)),
         Err(SideFault::OutOfMemory) => Err(OutOfMemory),
@@ -255,9 +260,9 @@ fn read_target(
 ) -> Result<Command, OutOfMemory>
     requires target { IsShort target.now }
     requires text { length text.now ≤ most_text_bytes }
-    ensures { IfOk result (BySide which.Target target.now (λ to. AsksToMap (record { source = source; target = to; map = text.now }))) }
+    ensures { IfOk result (BySide which.Target false target.now (λ to. AsksToMap (record { source = source; target = to; map = text.now }))) }
 {
-    match read_side(alloc, WhichSide::Target, target) {
+    match read_side(alloc, WhichSide::Target, false, target) {
         Ok(format) => read_map(alloc, source, format, text),
         Err(SideFault::Refused(refusal)) => Ok(Command::Refuse(refusal)),
         Err(SideFault::OutOfMemory) => Err(OutOfMemory),
@@ -267,6 +272,7 @@ fn read_target(
 /// What a translation asks for by its sides and the text of its map.
 fn read_sides(
     alloc: Global,
+    two: bool,
     source: &Side,
     target: &Side,
     text: &Str,
@@ -274,9 +280,9 @@ fn read_sides(
     requires source { IsShort source.now }
     requires target { IsShort target.now }
     requires text { length text.now ≤ most_text_bytes }
-    ensures { IfOk result (AsksToTranslate source.now target.now text.now) }
+    ensures { IfOk result (AsksToTranslate two source.now target.now text.now) }
 {
-    match read_side(alloc, WhichSide::Source, source) {
+    match read_side(alloc, WhichSide::Source, two, source) {
         Ok(format) => read_target(alloc, format, target, text),
         Err(SideFault::Refused(refusal)) => Ok(Command::Refuse(refusal)),
         Err(SideFault::OutOfMemory) => Err(OutOfMemory),
@@ -295,7 +301,7 @@ fn read_translation(alloc: Global, line: &CommandLine) -> Result<Command, OutOfM
     let Some(text) = &line.map else {
         unreachable!();
     };
-    read_sides(alloc, &line.source, target, text)
+    read_sides(alloc, line.two, &line.source, target, text)
 }
 
 /// What a command line asks for.
@@ -304,15 +310,16 @@ fn read_line(alloc: Global, line: &CommandLine) -> Result<Command, OutOfMemory>
     ensures { IfOk result (AsksFor line.now) }
 {
     match line.verb {
-        Verb::Check => read_source(alloc, Purpose::Check, &line.source),
-        Verb::Read => read_source(alloc, Purpose::Read, &line.source),
-        Verb::Write => read_source(alloc, Purpose::Write, &line.source),
-        Verb::Show => read_source(alloc, Purpose::Show, &line.source),
+        Verb::Check => read_source(alloc, Purpose::Check, line.two, &line.source),
+        Verb::Read => read_source(alloc, Purpose::Read, line.two, &line.source),
+        Verb::Write => read_source(alloc, Purpose::Write, line.two, &line.source),
+        Verb::Show => read_source(alloc, Purpose::Show, line.two, &line.source),
         Verb::Translate => read_translation(alloc, line),
         Verb::Gen => {
             read_source(
                 alloc,
                 Purpose::Generate(line.seed, line.count),
+                line.two,
                 &line.source,
             )
         }

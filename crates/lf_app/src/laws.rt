@@ -15,6 +15,7 @@ pub fn words_are_one_command()
     lf_fronts::one_answer();
     lf_fronts::spelled_keeps();
     lf_narrow::one_answer();
+    lf_format::two_keeps();
     lf_narrow::narrowed_keeps();
     lf_compile::laws::one_answer();
     lf_compile::laws::some_answer();
@@ -27,6 +28,7 @@ pub fn command_has_one_outcome()
 {
     lf_words::laws::format_is_a_word();
     lf_fronts::spelled_keeps();
+    lf_format::two_keeps();
     lf_narrow::narrowed_keeps();
     lf_compile::laws::lines_are_decided();
     lf_json::laws::lines_have_one_reading();

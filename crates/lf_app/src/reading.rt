@@ -4,14 +4,32 @@ ghost use Rattle.std.specs.Prelude.{◌≡◌, ◌+◌, ◌≤◌, Bool, false, 
 ghost use Rattle.lf_stream.specs.Standing.{bytes_fed};
 ghost use Rattle.lf_limits.specs.Limits.{least_room, most_run_bytes};
 ghost use Rattle.lf_app.specs.declared.verdict.Verdict.{Verdict as OneVerdict};
-ghost use Rattle.lf_app.specs.Progress.{CanWork, IsReading, HasRead, IsBegun, IsOpen, ReadsNext, Grows};
+ghost use Rattle.lf_app.specs.Progress.{CanWork, IsReading, HasRead, IsBegun, IsOpen, ReadsNext, Grows, Says};
 
 use crate::commands::Job;
 use crate::report::Report;
 use crate::verdict::verdict_of;
 use lf_core::OutOfMemory;
-use lf_stream::Lines;
+use lf_stream::{Lines, Numbered};
 use std::alloc::Global;
+
+/// Reports a line. Where it can't be scanned, it is read exactly.
+fn report_line(
+    alloc: Global,
+    job: &Job,
+    line: Numbered<'_>,
+    report: &mut Report,
+) -> Result<(), OutOfMemory>
+    requires { CanWork job.now }
+    ensures says { OnOk result (Says job.now line.entry.body line.entry.number report.old report.new) }
+    ensures count { OnOk result (report.new.count ≡ line.entry.number) }
+{
+    if report.scan_line(alloc, job, line)? {
+        return Ok(());
+    }
+    let said = verdict_of(alloc, job, line.body)?;
+    report.add(job, line.number, &said)
+}
 
 /// Reports the next line that is held whole. False where none is.
 fn report_next(
@@ -28,8 +46,7 @@ fn report_next(
     let Some(line) = lines.next() else {
         return Ok(false);
     };
-    let said = verdict_of(alloc, job, line.body)?;
-    report.add(job, line.number, &said)?;
+    report_line(alloc, job, line, report)?;
     Ok(true)
 }
 

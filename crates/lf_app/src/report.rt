@@ -1,6 +1,6 @@
 //! What is to be written of lines: a text for each sink.
 
-ghost use Rattle.std.specs.Prelude.{◌≡◌, ◌||◌, true, false, ℕ, [], ◌∷◌, ◌++◌, codes, OnOk};
+ghost use Rattle.std.specs.Prelude.{◌≡◌, ◌||◌, true, false, ℕ, [], ◌∷◌, ◌++◌, codes, IfOk, OnOk};
 ghost use Rattle.std.specs.Fmt.{decimal};
 ghost use Rattle.lf_app.specs.Verdicts.{format_of, finding_text, finding_err, bad_text, is_listed, listed_line, IsOfFormat};
 ghost use Rattle.lf_app.specs.declared.verdict.Finding.TheVariants as finding;
@@ -13,15 +13,19 @@ use lf_core::{Bytes, OutOfMemory};
 use lf_format::Format;
 use lf_json::{BadRecord, write_record};
 use lf_log::end_of;
+use lf_stamp::Recent;
+use lf_stream::{Body, Numbered};
 use std::alloc::Global;
 
-/// What is to be written of the lines so far: the number of the last one, whether one was listed, and both texts.
+/// What is to be written of the lines so far: the number of the last one, whether one was listed, and both texts;
+/// and the last time that was scanned.
 #[derive(Drop)]
 pub struct Report {
     pub count: u64,
     pub is_partial: bool,
     pub out: Bytes,
     pub err: Bytes,
+    recent: Recent,
 }
 
 /// Appends a number in decimal.
@@ -59,7 +63,7 @@ fn push_bad(bad: &BadRecord, into: &mut Bytes) -> Result<(), OutOfMemory>
 }
 
 impl Report {
-    ghost use Rattle.lf_app.specs.Progress.{Reports};
+    ghost use Rattle.lf_app.specs.Progress.{IsScanned, Reports};
 
     /// Nothing is to be written, and no line is counted.
     pub fn new(alloc: Global) -> Report
@@ -73,6 +77,7 @@ impl Report {
             is_partial: false,
             out: Bytes::new(alloc),
             err: Bytes::new(alloc),
+            recent: Recent::new(alloc),
         }
     }
 
@@ -162,5 +167,28 @@ impl Report {
             Verdict::Long => self.list_line(b"long "),
             Verdict::Found(found) => self.add_finding(job.format(), found),
         }
+    }
+
+    /// Adds the JSON of the line's record, and says true, where the line can be scanned.
+    pub fn scan_line(
+        &mut self,
+        alloc: Global,
+        job: &Job,
+        line: Numbered<'_>,
+    ) -> Result<bool, OutOfMemory>
+        ensures { IfOk result (IsScanned job.now line.entry.body line.entry.number self.old self.new) }
+    {
+        let Job::Read(reader) = job else {
+            return Ok(false);
+        };
+        let Body::Line(text) = line.body else {
+            return Ok(false);
+        };
+        if !reader.scan(alloc, &mut self.recent, text, &mut self.out)? {
+            return Ok(false);
+        }
+        self.out.push(b'\n')?;
+        self.count = line.number;
+        Ok(true)
     }
 }

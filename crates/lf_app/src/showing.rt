@@ -42,7 +42,8 @@ fn absent_word(absent: Absent) -> &'static [u8]
 {
     match absent {
         Absent::No => b"no",
-        Absent::Dash | Absent::DashTwo => b"dash",
+        Absent::Dash => b"dash",
+        Absent::DashTwo => b"dash-two",
         Absent::Blank => b"blank",
     }
 }

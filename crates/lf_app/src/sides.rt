@@ -3,7 +3,7 @@
 ghost use Rattle.std.specs.Prelude.{◌≡◌, ◌≤◌, List, ℕ, length, IfOk, IfErr};
 ghost use Rattle.std.specs.Option.{ForSome};
 ghost use Rattle.lf_limits.specs.Limits.{most_text_bytes};
-ghost use Rattle.lf_app.specs.Sides.{Leaves, Gives, IsShort, IsSideFault, IsNarrowingFault, side_fault_of};
+ghost use Rattle.lf_app.specs.Sides.{dash_apart, Leaves, Gives, IsShort, IsSideFault, IsNarrowingFault, side_fault_of};
 
 use crate::commands::{Refusal, WhichSide};
 use lf_core::Str;
@@ -34,6 +34,16 @@ fn side_fault(which: WhichSide, fault: NarrowFault) -> SideFault
     }
 }
 
+/// The format as it is spelled, or with a lone dash told from absence where that is asked for.
+fn told_apart(format: Format, two: bool) -> Format
+    ensures { result ≡ dash_apart two format }
+{
+    if two {
+        return format.with_two();
+    }
+    format
+}
+
 /// What the narrowing, if one is given, leaves of the format.
 fn narrow_by(
     alloc: Global,
@@ -54,14 +64,19 @@ fn narrow_by(
     }
 }
 
-/// The format that a side gives.
-pub fn read_side(alloc: Global, which: WhichSide, side: &Side) -> Result<Format, SideFault>
+/// The format that a side gives, with a lone dash told from absence where `two` says so.
+pub fn read_side(
+    alloc: Global,
+    which: WhichSide,
+    two: bool,
+    side: &Side,
+) -> Result<Format, SideFault>
     requires { IsShort side.now }
-    ensures given { IfOk result (Gives side.now) }
-    ensures fault { IfErr result (IsSideFault which side.now) }
+    ensures given { IfOk result (Gives two side.now) }
+    ensures fault { IfErr result (IsSideFault which two side.now) }
 {
     match parse(alloc, side.front, side.format.as_str()) {
-        Ok(format) => narrow_by(alloc, which, format, &side.narrow),
+        Ok(spelled) => narrow_by(alloc, which, told_apart(spelled, two), &side.narrow),
         Err(FormatFault::At(place, cause)) => {
             Err(SideFault::Refused(Refusal::BadFormat(which, place, cause)))
         }

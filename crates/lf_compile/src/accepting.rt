@@ -20,6 +20,7 @@ use lf_format::Format;
 use lf_limits::MOST_SIZE;
 use lf_machine::FormatMachine;
 use lf_product::{Pairs, distances};
+use lf_scan::Plan;
 use std::alloc::Global;
 
 /// The reader of a readable format. A refusal gives the format back.
@@ -64,7 +65,10 @@ fn finder_of(alloc: Global, format: &Format) -> Result<Finder, Refused>
     }
     match least_confusion(alloc, &machine, &pairs)? {
         Some(confusion) => Err(Refused::Ambiguous(confusion)),
-        None => Ok(Finder::new(alloc, machine, pairs.into_table())?),
+        None => {
+            let plan = Plan::of(alloc, format)?;
+            Ok(Finder::new(alloc, machine, pairs.into_table(), plan)?)
+        }
     }
 }
 

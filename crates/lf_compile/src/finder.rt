@@ -8,6 +8,7 @@ ghost use Rattle.lf_compile.specs.Tabled.{HasManySets};
 
 use lf_core::{OutOfMemory, Run};
 use lf_machine::FormatMachine;
+use lf_scan::Plan;
 use lf_sets::SetReader;
 use lf_tables::Tables;
 use lf_written::{Table, WrittenOut};
@@ -19,10 +20,11 @@ use std::marker::Model;
 pub(crate) struct Finder {
     machine: WrittenOut<FormatMachine>,
     tables: Option<Tables>,
+    plan: Plan,
 }
 
 impl Model for Finder {
-    ghost use Rattle.std.specs.Prelude.{List};
+    ghost use Rattle.std.specs.Prelude.{◌≡◌, List};
     ghost use Rattle.lf_format.specs.declared.format.Piece.{Piece};
     ghost use Rattle.lf_compile.specs.Tabled.{AreTables};
 
@@ -30,23 +32,26 @@ impl Model for Finder {
 
     ghost view = { λ f. f.machine };
 
-    ghost invariant = { λ f. AreTables f.machine f.tables };
+    ghost invariant = { λ f. AreTables f.machine f.tables × (f.plan ≡ f.machine) };
 }
 
 impl Finder {
-    /// The finder of the machine that is written out.
+    /// The finder of the machine that is written out, with the plan of the same pieces.
     pub(crate) fn new(
         alloc: Global,
         machine: FormatMachine,
         table: Table,
+        plan: Plan,
     ) -> Result<Finder, OutOfMemory>
-        requires { table ≡ written (line_machine machine) }
+        requires table { table ≡ written (line_machine machine) }
+        requires plan { plan ≡ machine }
         ensures { IfOk result (λ finder. finder ≡ machine) }
     {
         let tables = Tables::build(alloc, &table)?;
         Ok(Finder {
             machine: WrittenOut::new(machine, table),
             tables,
+            plan,
         })
     }
 
@@ -55,6 +60,13 @@ impl Finder {
         ensures { result.now ≡ self.now }
     {
         &self.machine
+    }
+
+    /// The plan by which lines are scanned.
+    pub(crate) fn plan(&self) -> &Plan
+        ensures { result.now ≡ self.now }
+    {
+        &self.plan
     }
 
     /// Whether there are tables.

@@ -4,11 +4,14 @@ ghost use Rattle.lf_format.specs.Lines.{IsReadable, PrintsNone};
 ghost use Rattle.lf_compile.specs.Accepted.{IsAccepted};
 ghost use Rattle.lf_compile.specs.Confused.{IsOnlyRecord};
 ghost use Rattle.lf_compile.specs.Tabled.{HasManySets, IsTabled};
+ghost use Rattle.lf_scan.specs.Reads.{IsScan};
 
 use crate::finder::Finder;
 use crate::meaning::{decode, has_runs};
-use lf_core::{OutOfMemory, Record};
+use lf_core::{Bytes, OutOfMemory, Record};
 use lf_format::Format;
+use lf_scan::scan;
+use lf_stamp::Recent;
 use std::alloc::Global;
 use std::marker::Model;
 
@@ -59,6 +62,21 @@ impl Reader {
         ensures { MatchBool result (IsTabled self.now) (HasManySets self.now.pieces) }
     {
         self.finder.tabled()
+    }
+
+    /// Adds the JSON of a record that prints the line and says true, where the guesses of a scan fit. Else it says false
+    /// and adds nothing, and only `read` tells whether a record prints the line. `recent` keeps the last time that was
+    /// scanned.
+    pub fn scan(
+        &self,
+        alloc: Global,
+        recent: &mut Recent,
+        line: &[u8],
+        into: &mut Bytes,
+    ) -> Result<bool, OutOfMemory>
+        ensures { IfOk result (IsScan self.now.pieces line.now into.old into.new) }
+    {
+        scan(alloc, self.finder.plan(), recent, line, into)
     }
 
     /// The one record that prints the line; None exactly where no record does.

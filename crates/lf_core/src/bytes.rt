@@ -1,6 +1,6 @@
 //! Byte lists.
 
-ghost use Rattle.std.specs.Prelude.{◌≡◌, ◌↔◌, List, ℕ, [], ◌∷◌, ◌++◌, length, IfOk, IsTrue, OnOk, OnErr};
+ghost use Rattle.std.specs.Prelude.{◌≡◌, ◌↔◌, List, ℕ, [], ◌∷◌, ◌++◌, length, take, IfOk, IsTrue, OnOk, OnErr};
 
 use crate::memory::OutOfMemory;
 use std::alloc::Global;
@@ -54,6 +54,13 @@ impl Bytes {
         ensures { self.new ≡ [] }
     {
         self.items.clear();
+    }
+
+    /// Keeps the first `len` bytes, or all where there are fewer, and the memory.
+    pub fn truncate(&mut self, len: usize)
+        ensures { self.new ≡ take len self.old }
+    {
+        self.items.truncate(len);
     }
 
     /// Adds the byte at the end. After want of memory the list is as it was.

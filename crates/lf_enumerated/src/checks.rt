@@ -7,8 +7,10 @@ use crate::shapes::{Row, format_of};
 use lf_compile::{Confusion, Reader, Refused, compile};
 use lf_core::{Bytes, Record};
 use lf_format::Format;
+use lf_known_scans::{Scanned, compare_scan};
 use lf_limits::MOST_SIZE;
 use lf_machine::FormatMachine;
+use lf_stamp::Recent;
 use std::alloc::Global;
 use std::cmp::Ordering;
 use std::test::Fail;
@@ -150,7 +152,7 @@ fn is_same(format: &Format, one: &Option<Record>, other: &Option<Record>) -> boo
     }
 }
 
-/// Each line is read by tables as it is by sets of points.
+/// Each line is read by tables as it is by sets of points, and its scan fits or says nothing.
 fn check_reader(
     alloc: Global,
     parts: &Parts,
@@ -158,11 +160,14 @@ fn check_reader(
     lines: &[Bytes],
 ) -> Result<(), Fail> {
     expect(reader.tabled(), "no tables")?;
+    let mut recent = Recent::new(alloc);
     for line in lines {
         let by_tables = reader.read(alloc, line.as_slice())?;
         let by_sets = found_in(alloc, &parts.machine, line.as_slice())?;
         let is = is_same(&parts.format, &by_tables, &by_sets);
         expect(is, "another record is read")?;
+        let came = compare_scan(alloc, reader, &mut recent, line.as_slice())?;
+        expect(came != Scanned::Differs, "another record is scanned")?;
     }
     Ok(())
 }

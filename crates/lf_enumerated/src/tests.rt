@@ -28,6 +28,13 @@ fn a_dash_is_both_absence_and_a_text(rt: HostRuntime) -> Result<(), Fail> {
 }
 
 #[test]
+fn a_dash_is_a_text_where_none_is_missing(rt: HostRuntime) -> Result<(), Fail> {
+    let first = Row::of("-a", 1, Raw, DashTwo).present();
+    let second = Row::of("-a", 1, Raw, Dash);
+    check_format(rt.alloc(), &[first, second], Some(b' '), " -a", 6, None)
+}
+
+#[test]
 fn a_dash_in_quotes_is_a_text(rt: HostRuntime) -> Result<(), Fail> {
     let first = Row::of("-a", 1, Raw, DashTwo).quoted();
     let second = Row::of("-a", 1, Raw, Dash).quoted();

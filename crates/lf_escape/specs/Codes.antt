@@ -1,5 +1,5 @@
 -- What a code is: a word of bytes for each letter that it takes.
-use Rattle.std.specs.Prelude.{◌≡◌, ℕ, ◌<◌, ◌≤◌, List, [], ◌∷◌, ◌++◌, length, Bool, true, nat_lt, ◌==◌, ◌&&◌, not, All, Contains}
+use Rattle.std.specs.Prelude.{◌≡◌, ℕ, ◌<◌, ◌≤◌, List, [], ◌∷◌, ◌++◌, length, Bool, true, false, nat_lt, ◌==◌, ◌&&◌, not, All, Contains}
 
 -- What each code keeps.
 pub record IsCode (takes : ℕ → Bool) (word : ℕ → List ℕ) : Type 0 where
@@ -26,6 +26,16 @@ AreWordsApart takes word = (a b : ℕ) → takes a ≡ true → takes b ≡ true
 abbrev pub coded : (ℕ → List ℕ) → List ℕ → List ℕ
 coded word [] = []
 coded word (letter ∷ letters) = word letter ++ coded word letters
+
+-- The word is the letter alone.
+abbrev pub is_alone : ℕ → List ℕ → Bool
+is_alone letter [] = false
+is_alone letter (byte ∷ []) = byte == letter
+is_alone letter (byte ∷ more ∷ rest) = false
+
+-- The letter is its own word.
+abbrev pub is_bare : (ℕ → List ℕ) → ℕ → Bool
+is_bare word letter = is_alone letter (word letter)
 
 -- Every byte.
 abbrev pub byte_takes : ℕ → Bool

@@ -1,4 +1,4 @@
--- The code of a slot, by its member.
+-- The code of a slot, by its member. Each says the letters that it takes and their words in Plain, Apache, Nginx or HaProxy.
 use Rattle.std.specs.Prelude.{ℕ, Bool, List}
 use Rattle.lf_escape.specs.Codes.{IsCode, byte_takes, line_takes}
 use Rattle.lf_escape.specs.Plain.{raw_word, plus_word, doubled_word, raw_prefixes, plus_prefixes, doubled_prefixes}

@@ -5,7 +5,7 @@ ghost use Rattle.lf_escape.specs.Apache.{apache_word};
 ghost use Rattle.lf_escape.specs.CodeLaws.{apache_code};
 
 use crate::code::{Apart, Code};
-use crate::escapes::{Case, backslash_hex, backslashed};
+use crate::escapes::{Case, backslash_hex, backslashed, is_printable};
 use crate::word::Word;
 
 /// The escapes of Apache's log.
@@ -34,6 +34,13 @@ impl Code for ApacheHex {
             b'\x0B' => backslashed(b'v'),
             b' '..=b'~' => Word::of_one(letter),
             _ => backslash_hex(Case::Lower, letter),
+        }
+    }
+
+    fn is_bare(&self, letter: u8) -> bool {
+        match letter {
+            b'"' | b'\\' => false,
+            _ => is_printable(letter),
         }
     }
 }

@@ -1,5 +1,10 @@
 //! A code by its name.
 
+ghost use Rattle.std.specs.Prelude.{◌≡◌};
+ghost use Rattle.std.specs.List.{prefix_len};
+ghost use Rattle.lf_escape.specs.Codes.{is_bare};
+ghost use Rattle.lf_escape.specs.Codings.{coding_word};
+
 use crate::apache_hex::ApacheHex;
 use crate::code::Code;
 use crate::doubled::Doubled;
@@ -71,4 +76,46 @@ impl Code for Coding {
             Coding::Doubled => Doubled.word_of(letter),
         }
     }
+
+    fn is_bare(&self, letter: u8) -> bool {
+        match self {
+            Coding::Raw => Raw.is_bare(letter),
+            Coding::ApacheHex => ApacheHex.is_bare(letter),
+            Coding::NginxHex => NginxHex.is_bare(letter),
+            Coding::NginxJson => NginxJson.is_bare(letter),
+            Coding::HaHash => HaHash.is_bare(letter),
+            Coding::HaCapture => HaCapture.is_bare(letter),
+            Coding::HaEscape => HaEscape.is_bare(letter),
+            Coding::PlusSpace => PlusSpace.is_bare(letter),
+            Coding::Doubled => Doubled.is_bare(letter),
+        }
+    }
+}
+
+impl Coding {
+    /// How many letters at the front of the text are their own words.
+    pub fn bare_len(&self, text: &[u8]) -> usize
+        ensures { result ≡ prefix_len (is_bare (coding_word self.now)) text.now }
+    {
+        match self {
+            Coding::Raw => bare_run(&Raw, text),
+            Coding::ApacheHex => bare_run(&ApacheHex, text),
+            Coding::NginxHex => bare_run(&NginxHex, text),
+            Coding::NginxJson => bare_run(&NginxJson, text),
+            Coding::HaHash => bare_run(&HaHash, text),
+            Coding::HaCapture => bare_run(&HaCapture, text),
+            Coding::HaEscape => bare_run(&HaEscape, text),
+            Coding::PlusSpace => bare_run(&PlusSpace, text),
+            Coding::Doubled => bare_run(&Doubled, text),
+        }
+    }
+}
+
+/// How many letters at the front of the text are their own words under the code.
+fn bare_run<C: Code>(code: &C, text: &[u8]) -> usize
+    ensures { result ≡ prefix_len (is_bare (C.word code.now)) text.now }
+{
+    text.iter()
+        .take_while(|letter| code.is_bare(**letter))
+        .count()
 }

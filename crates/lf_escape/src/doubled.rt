@@ -28,6 +28,10 @@ impl Code for Doubled {
         }
         Word::of_one(letter)
     }
+
+    fn is_bare(&self, letter: u8) -> bool {
+        letter != b'"'
+    }
 }
 
 impl Apart for Doubled {

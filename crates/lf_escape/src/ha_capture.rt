@@ -31,6 +31,13 @@ impl Code for HaCapture {
             _ => HaHash.word_of(letter),
         }
     }
+
+    fn is_bare(&self, letter: u8) -> bool {
+        match letter {
+            b'{' | b'|' | b'}' => false,
+            _ => HaHash.is_bare(letter),
+        }
+    }
 }
 
 impl Apart for HaCapture {

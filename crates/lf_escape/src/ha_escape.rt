@@ -29,6 +29,13 @@ impl Code for HaEscape {
             _ => Word::of_one(letter),
         }
     }
+
+    fn is_bare(&self, letter: u8) -> bool {
+        match letter {
+            b'"' | b'\\' | b']' => false,
+            _ => true,
+        }
+    }
 }
 
 impl Apart for HaEscape {

@@ -29,6 +29,13 @@ impl Code for NginxHex {
         }
         Word::of_one(letter)
     }
+
+    fn is_bare(&self, letter: u8) -> bool {
+        match letter {
+            b'"' | b'\\' => false,
+            _ => is_printable(letter),
+        }
+    }
 }
 
 impl Apart for NginxHex {

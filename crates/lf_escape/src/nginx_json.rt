@@ -42,6 +42,13 @@ impl Code for NginxJson {
             _ => Word::of_one(letter),
         }
     }
+
+    fn is_bare(&self, letter: u8) -> bool {
+        match letter {
+            b'"' | b'\\' => false,
+            _ => letter >= b' ',
+        }
+    }
 }
 
 impl Apart for NginxJson {

@@ -29,4 +29,8 @@ impl Code for PlusSpace {
         }
         Word::of_one(letter)
     }
+
+    fn is_bare(&self, letter: u8) -> bool {
+        letter != b' '
+    }
 }

@@ -25,6 +25,10 @@ impl Code for Raw {
     fn word_of(&self, letter: u8) -> Word {
         Word::of_one(letter)
     }
+
+    fn is_bare(&self, _letter: u8) -> bool {
+        true
+    }
 }
 
 impl Apart for Raw {

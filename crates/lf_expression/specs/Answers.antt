@@ -8,6 +8,8 @@ use Rattle.lf_expression.specs.declared.answers.Letters.{Letters}
 use Rattle.lf_expression.specs.declared.answers.Letters.TheVariants.{Held, Made}
 use Rattle.lf_expression.specs.declared.answers.Answer.{Answer}
 use Rattle.lf_expression.specs.declared.answers.Answer.TheVariants as answer
+use Rattle.lf_expression.specs.declared.found.Found.{Found}
+use Rattle.lf_expression.specs.declared.found.Found.TheVariants as found
 
 abbrev pub letters_said : Letters → List ℕ
 letters_said (Held text) = text.now
@@ -21,6 +23,11 @@ answer_said (answer.Text letters) = Some (Text (letters_said letters))
 answer_said (answer.Moment m) = Some (Moment m.moment)
 answer_said (answer.Day d) = Some (Day d.day)
 answer_said (answer.Clock c) = Some (Clock c.second)
+
+abbrev pub found_said : Found → Option Value
+found_said found.Undefined = None
+found_said (found.Held v) = Some v.now
+found_said (found.Made v) = Some v
 
 -- A time of the calendar, if it is a time.
 abbrev pub IsDated : Value → Type 0

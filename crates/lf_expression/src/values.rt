@@ -241,7 +241,11 @@ fn slot_value<'a>(rec: &'a [Value], k: u32) -> Answer<'a>
 }
 
 /// The value of the expression on the record, with its texts where they are.
-fn answer_of<'a>(alloc: Global, expr: &'a Expr, rec: &'a [Value]) -> Result<Answer<'a>, OutOfMemory>
+pub(crate) fn answer_of<'a>(
+    alloc: Global,
+    expr: &'a Expr,
+    rec: &'a [Value],
+) -> Result<Answer<'a>, OutOfMemory>
     requires { All IsDated rec.now }
     ensures { IfOk result (λ answer. answer_said answer ≡ expr_value (expr_said expr.now) rec.now) }
 {
@@ -269,13 +273,4 @@ fn answer_of<'a>(alloc: Global, expr: &'a Expr, rec: &'a [Value]) -> Result<Answ
             of_answer(alloc, *operation, first)
         }
     }
-}
-
-/// The value of the expression on the record, unless it is undefined.
-pub fn expr_value(alloc: Global, expr: &Expr, rec: &[Value]) -> Result<Option<Value>, OutOfMemory>
-    requires { All IsDated rec.now }
-    ensures { IfOk result (λ value. value ≡ expr_value (expr_said expr.now) rec.now) }
-{
-    let answer = answer_of(alloc, expr, rec)?;
-    answer.into_value(alloc)
 }

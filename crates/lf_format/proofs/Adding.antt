@@ -1,13 +1,9 @@
 -- Prefixes of what is added in parts.
-use Rattle.std.proofs.Common.{◌≡◌, ℕ, ◌+◌, ◌<◌, List, [], ◌∷◌, ◌++◌, length, take, drop, get_or, refl, sym, ap, ◌∙◌, append_assoc, append-nil}
+use Rattle.std.proofs.Common.{◌≡◌, ℕ, ◌+◌, ◌<◌, List, [], ◌∷◌, ◌++◌, length, take, get_or, refl, sym, ap, ◌∙◌, append_assoc, append-nil}
 use Rattle.std.specs.Prelude.{Result, Ok, Err, OnOk, OnErr}
-use Rattle.std.proofs.lemmas.List.{take_more, take-append-drop}
+use Rattle.std.proofs.lemmas.List.{take_more}
 use Rattle.lf_escape.specs.Codes.{coded}
 use Rattle.lf_core.specs.Adds.{AddsFront}
-
--- Nothing was added.
-pub adds-none : (old added : List ℕ) → AddsFront old old added
-adds-none old added = ([], added, refl, sym (append-nil old))
 
 -- A part was added, and then a prefix of the rest.
 pub adds-more : (old mid new part rest added : List ℕ) → mid ≡ old ++ part → added ≡ part ++ rest → AddsFront mid new rest → AddsFront old new added
@@ -39,6 +35,3 @@ coded-append word (x ∷ xs) ys = ap (λ (t : List ℕ). word x ++ t) (coded-app
 pub coded-more : (word : ℕ → List ℕ) (letters : List ℕ) (i d : ℕ) → i < length letters → coded word (take (i + 1) letters) ≡ coded word (take i letters) ++ word (get_or letters i d)
 coded-more word letters i d h =
     ap (coded word) (take_more letters i d h) ∙ coded-append word (take i letters) (get_or letters i d ∷ []) ∙ ap (λ (t : List ℕ). coded word (take i letters) ++ t) (append-nil (word (get_or letters i d)))
-
-pub coded-front : (word : ℕ → List ℕ) (letters : List ℕ) (i : ℕ) → coded word letters ≡ coded word (take i letters) ++ coded word (drop i letters)
-coded-front word letters i = ap (coded word) (sym (take-append-drop i letters)) ∙ coded-append word (take i letters) (drop i letters)

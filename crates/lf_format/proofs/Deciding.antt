@@ -98,7 +98,7 @@ bytes-decided (b ∷ text) = elim (cases_lt b 256) [
   ]
 ]
 
-texts-cases : (a b : List ℕ) → (a ≡ b) ⊎ (a ≢ b)
+pub texts-cases : (a b : List ℕ) → (a ≡ b) ⊎ (a ≢ b)
 texts-cases [] [] = inl refl
 texts-cases [] (b ∷ bs) = inr (λ e. cc)
 texts-cases (a ∷ xs) [] = inr (λ e. cc)

@@ -2,6 +2,8 @@ pub mod Coded
 pub mod SomeTexts
 pub mod SomeValues
 pub mod Adding
+pub mod BareRuns
 pub mod CodedValues
 pub mod Deciding
 pub mod SameKinds
+pub mod TwoLaws

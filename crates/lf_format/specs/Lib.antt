@@ -15,3 +15,4 @@ pub mod KeptSlots
 pub mod TakenLaws
 pub mod SomeValueLaws
 pub mod KeptSlotLaws
+pub mod Two

@@ -5,8 +5,10 @@ ghost use Rattle.lf_limits.specs.Limits.{most_slots};
 ghost use Rattle.lf_core.specs.Adds.{AddsFront};
 ghost use Rattle.lf_format.specs.Keeps.{KeepsFormat, slots_in};
 ghost use Rattle.lf_format.specs.Lines.{IsRecordOf, line_text};
+ghost use Rattle.lf_format.specs.Two.{with_two};
 
 use crate::slot::Slot;
+use crate::two::tell_apart;
 use crate::writing::{are_held, write_pieces};
 use lf_core::{Bytes, OutOfMemory, Record};
 use std::alloc::Global;
@@ -116,6 +118,15 @@ impl Format {
     {
         let pieces = copy_pieces(*self.pieces.allocator(), self.pieces.as_slice())?;
         Ok(Format::new(pieces, self.end, self.notes))
+    }
+
+    /// The same format with `DashTwo` in place of every `Dash`.
+    pub fn with_two(self) -> Format
+        ensures { result ≡ with_two self }
+    {
+        let mut pieces = self.pieces;
+        tell_apart(pieces.as_mut_slice());
+        Format::new(pieces, self.end, self.notes)
     }
 }
 

@@ -15,16 +15,22 @@ use crate::slot::{Absent, Slot};
 use lf_core::{Bytes, Domain, OutOfMemory, Value};
 use lf_escape::{Code, Coding};
 
-/// Appends the words of the letters.
+/// Appends the words of the letters, and each run of letters that are their own words whole.
 fn write_words(code: Coding, letters: &[u8], into: &mut Bytes) -> Result<(), OutOfMemory>
     requires { All (λ letter. coding_takes code letter ≡ true) letters.now }
     ensures ok { OnOk result (into.new ≡ into.old ++ coded (coding_word code) letters.now) }
     ensures err { OnErr result (AddsFront into.old into.new (coded (coding_word code) letters.now)) }
 {
-    for letter in letters {
+    let mut rest = letters;
+    'runs: loop {
+        let (bare, more) = rest.split_at(code.bare_len(rest));
+        into.extend(bare)?;
+        let Some((letter, after)) = more.split_first() else {
+            return Ok(());
+        };
         into.extend(code.word_of(*letter).as_slice())?;
+        rest = after;
     }
-    Ok(())
 }
 
 /// Appends the coded text of a text. Letters that stand for themselves are copied whole.
@@ -78,16 +84,18 @@ fn write_present(slot: &Slot, value: &Value, into: &mut Bytes) -> Result<(), Out
     into.push(b'"')
 }
 
-/// Appends what the slot prints for the value.
-fn write_value(slot: &Slot, value: &Value, into: &mut Bytes) -> Result<(), OutOfMemory>
-    requires kept { KeepsSlot slot.now }
-    requires held { Holds slot.now value.now }
-    ensures ok { OnOk result (into.new ≡ into.old ++ slot_text slot.now value.now) }
-    ensures err { OnErr result (AddsFront into.old into.new (slot_text slot.now value.now)) }
-{
-    match value {
-        Value::Missing => into.extend(absence(slot.absent, slot.quoted)),
-        _ => write_present(slot, value, into),
+impl Slot {
+    /// Appends what the slot prints for the value.
+    pub fn write_value(&self, value: &Value, into: &mut Bytes) -> Result<(), OutOfMemory>
+        requires kept { KeepsSlot self.now }
+        requires held { Holds self.now value.now }
+        ensures ok { OnOk result (into.new ≡ into.old ++ slot_text self.now value.now) }
+        ensures err { OnErr result (AddsFront into.old into.new (slot_text self.now value.now)) }
+    {
+        match value {
+            Value::Missing => into.extend(absence(self.absent, self.quoted)),
+            _ => write_present(self, value, into),
+        }
     }
 }
 
@@ -111,7 +119,7 @@ pub(crate) fn write_pieces(
         Some((Piece::Slot(slot), rest)) => match values.split_first() {
             None => unreachable!(),
             Some((value, more)) => {
-                write_value(slot, value, into)?;
+                slot.write_value(value, into)?;
                 write_pieces(rest, more, into)
             }
         },

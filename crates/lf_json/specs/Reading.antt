@@ -54,7 +54,7 @@ text_of (string text) = Some text
 text_of (object found) = hex_text found
 text_of json = None
 
--- the number that a JSON value stands for
+-- the number that a JSON value stands for: an integer within 64 bits, signed; `1.0` stands for none
 abbrev pub number_of : Data → Option ℤ
 number_of json = option_and_then as_i64 (as_number json)
 

@@ -8,7 +8,7 @@ use std::test::Fail;
 
 #[test]
 fn the_first_number(rt: HostRuntime) -> Result<(), Fail> {
-    let format = format_of(rt.alloc(), Front::Apache, "%B", "")?.ok_or("no format")?;
+    let format = format_of(rt.alloc(), Front::Apache, false, "%B", "")?.ok_or("no format")?;
     let mut state = 0;
     let record = next_record(rt.alloc(), &format, &mut state)?;
     assert_eq!(rt; record.len(), 1);
@@ -19,7 +19,7 @@ fn the_first_number(rt: HostRuntime) -> Result<(), Fail> {
 
 #[test]
 fn the_last_state(rt: HostRuntime) -> Result<(), Fail> {
-    let format = format_of(rt.alloc(), Front::Apache, "%B", "")?.ok_or("no format")?;
+    let format = format_of(rt.alloc(), Front::Apache, false, "%B", "")?.ok_or("no format")?;
     let mut state = u64::MAX;
     let record = next_record(rt.alloc(), &format, &mut state)?;
     assert!(rt; matches!(record.as_slice().first(), Some(Value::Num(104977))));

@@ -126,13 +126,19 @@ fn check_format(
     Ok(())
 }
 
-/// Each row is a format of one slot of texts.
-fn check_slots(rt: &impl Abort, alloc: Global, front: Front, rows: &str) -> Result<(), Fail> {
+/// Each row is a format of one slot of texts. A lone dash is told from absence where `two` says so.
+fn check_slots_by(
+    rt: &impl Abort,
+    alloc: Global,
+    front: Front,
+    two: bool,
+    rows: &str,
+) -> Result<(), Fail> {
     for text in rows.lines() {
         for (spelled, letters) in LETTERS {
             for bounds in BOUNDS {
                 let narrowing = format!(in alloc; "s1:only {spelled}{bounds}")?;
-                if let Some(format) = format_of(alloc, front, text, narrowing.as_str())? {
+                if let Some(format) = format_of(alloc, front, two, text, narrowing.as_str())? {
                     let name = format!(in alloc; "{text} by {narrowing}")?;
                     check_format(rt, alloc, &format, letters, name.as_str())?;
                 }
@@ -140,6 +146,17 @@ fn check_slots(rt: &impl Abort, alloc: Global, front: Front, rows: &str) -> Resu
         }
     }
     Ok(())
+}
+
+fn check_slots(rt: &impl Abort, alloc: Global, front: Front, rows: &str) -> Result<(), Fail> {
+    check_slots_by(rt, alloc, front, false, rows)
+}
+
+#[test]
+fn slots_where_a_lone_dash_is_a_value(rt: HostRuntime) -> Result<(), Fail> {
+    check_slots_by(&rt, rt.alloc(), Front::Apache, true, "%r\n%h\n%f")?;
+    check_slots_by(&rt, rt.alloc(), Front::Envoy, true, "%REQ(A)%\n%REQ(A):2%")?;
+    check_slots_by(&rt, rt.alloc(), Front::W3c, true, "cs(A)")
 }
 
 #[test]

@@ -1,6 +1,6 @@
 //! Least values of slots, beside known answers.
 
-use crate::telling::check_least;
+use crate::telling::{check_least, check_least_by};
 use lf_words::Front;
 use std::test::Fail;
 
@@ -169,4 +169,23 @@ cs(User-Agent) => s1:present;s1:len 2.. => !! => text !!
 sc-status => s1:present => 0 => number 0
 cs-username => s1:present => ! => text !",
     )
+}
+
+#[test]
+fn least_where_a_lone_dash_is_a_value(rt: HostRuntime) -> Result<(), Fail> {
+    let of_apache = "%h =>  => ! => text !
+%h => s1:present => ! => text !
+%h => s1:only \\x2d => - => null
+%h => s1:only \\x2d;s1:present => - => text -
+%h => s1:only \\x2d;s1:len 2..2;s1:present => -- => text --
+%200b =>  => - => null
+%200b => s1:present => - => number 0
+%200b => s1:range 7..12;s1:present => 7 => number 7
+%b =>  => - => number 0
+%r => s1:present =>  => text ";
+    check_least_by(&rt, rt.alloc(), Front::Apache, true, of_apache)?;
+    let of_w3c = "cs(A) =>  => - => null
+cs(A) => s1:only \\x2d;s1:len 1..;s1:present => \"-\" => text -
+date =>  => - => null";
+    check_least_by(&rt, rt.alloc(), Front::W3c, true, of_w3c)
 }

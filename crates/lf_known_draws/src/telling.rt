@@ -13,18 +13,31 @@ use std::alloc::{AllocError, Global};
 use std::process::Abort;
 use std::test::Fail;
 
-/// The format of the first text after it is narrowed by the second, if that isn't empty. None where nothing is left
-/// to some slot.
-pub(crate) fn format_of(
-    alloc: Global,
-    front: Front,
-    format: &str,
-    narrowing: &str,
-) -> Result<Option<Format>, Fail> {
-    if MOST_TEXT_BYTES < format.len() || MOST_TEXT_BYTES < narrowing.len() {
+/// The format as it is spelled, or with a lone dash told from absence.
+fn spelled(alloc: Global, front: Front, two: bool, format: &str) -> Result<Format, Fail> {
+    if MOST_TEXT_BYTES < format.len() {
         return Err("too long".into());
     }
     let format = parse(alloc, front, format).ok().ok_or("no format")?;
+    if two {
+        return Ok(format.with_two());
+    }
+    Ok(format)
+}
+
+/// The format of the first text, with a lone dash told from absence or not, after it is narrowed by the second, if that
+/// isn't empty. None where nothing is left to some slot.
+pub(crate) fn format_of(
+    alloc: Global,
+    front: Front,
+    two: bool,
+    format: &str,
+    narrowing: &str,
+) -> Result<Option<Format>, Fail> {
+    if MOST_TEXT_BYTES < narrowing.len() {
+        return Err("too long".into());
+    }
+    let format = spelled(alloc, front, two, format)?;
     if narrowing.is_empty() {
         return Ok(Some(format));
     }
@@ -82,7 +95,7 @@ pub(crate) fn check_draws(
     for row in rows.lines() {
         let (text, rest) = row.split_once(" => ").ok_or("no arrow")?;
         let (narrowing, wanted) = rest.split_once(" => ").ok_or("no second arrow")?;
-        let format = format_of(alloc, front, text, narrowing)?.ok_or("nothing left")?;
+        let format = format_of(alloc, front, false, text, narrowing)?.ok_or("nothing left")?;
         let told = drawn(alloc, &format)?;
         assert_eq!(rt; told.as_str(), wanted, "{text} by {narrowing}");
     }
@@ -118,18 +131,30 @@ fn least(alloc: Global, format: &Format) -> Result<String, Fail> {
 }
 
 /// Each row is a format of one slot, an arrow, a narrowing, an arrow, the line of the least value, an arrow, and the value.
+/// A lone dash is told from absence where `two` says so.
+pub(crate) fn check_least_by(
+    rt: &impl Abort,
+    alloc: Global,
+    front: Front,
+    two: bool,
+    rows: &str,
+) -> Result<(), Fail> {
+    for row in rows.lines() {
+        let (text, rest) = row.split_once(" => ").ok_or("no arrow")?;
+        let (narrowing, wanted) = rest.split_once(" => ").ok_or("no second arrow")?;
+        let format = format_of(alloc, front, two, text, narrowing)?.ok_or("nothing left")?;
+        let told = least(alloc, &format)?;
+        assert_eq!(rt; told.as_str(), wanted, "{text} by {narrowing}");
+    }
+    Ok(())
+}
+
+/// The same where absence and a lone dash are one value.
 pub(crate) fn check_least(
     rt: &impl Abort,
     alloc: Global,
     front: Front,
     rows: &str,
 ) -> Result<(), Fail> {
-    for row in rows.lines() {
-        let (text, rest) = row.split_once(" => ").ok_or("no arrow")?;
-        let (narrowing, wanted) = rest.split_once(" => ").ok_or("no second arrow")?;
-        let format = format_of(alloc, front, text, narrowing)?.ok_or("nothing left")?;
-        let told = least(alloc, &format)?;
-        assert_eq!(rt; told.as_str(), wanted, "{text} by {narrowing}");
-    }
-    Ok(())
+    check_least_by(rt, alloc, front, false, rows)
 }

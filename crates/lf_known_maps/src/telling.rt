@@ -55,7 +55,7 @@ fn told(
     let rec = read_record(alloc, json.as_bytes(), &from)
         .ok()
         .ok_or("no record")?;
-    match translate_record(alloc, &map, &to, &rec)? {
+    match translate_record(alloc, &map, &rec)? {
         Turned::Unmapped(k) => Ok(format!(in alloc; "unmapped {k}")?),
         Turned::Line(line) => {
             let line = str::from_utf8(line.as_slice()).ok().ok_or("no text")?;

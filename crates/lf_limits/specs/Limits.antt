@@ -3,11 +3,11 @@ use Rattle.std.specs.Prelude.{ℕ}
 
 -- The most bytes of a line that isn't long, its end left out.
 abbrev pub most_line_bytes : ℕ
-most_line_bytes = 1048576
+most_line_bytes = 16777216
 
 -- The greatest size of a format that is compiled.
 abbrev pub most_size : ℕ
-most_size = 4096
+most_size = 8192
 
 -- The most slots of a format.
 abbrev pub most_slots : ℕ
@@ -55,7 +55,7 @@ most_run_bytes = 4611686018427387904
 
 -- The bytes of the buffer that holds the lines of a stream.
 abbrev pub buffer_bytes : ℕ
-buffer_bytes = 4194304
+buffer_bytes = 33554432
 
 -- The room that the buffer has at least where no whole line is held.
 abbrev pub least_room : ℕ

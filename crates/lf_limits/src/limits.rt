@@ -1,10 +1,10 @@
 //! The constants of the code. `laws::constants_are_the_limits` shows them equal to the numbers of `specs/Limits.antt`.
 
 /// The most bytes of a line that isn't long, its end left out.
-pub const MOST_LINE_BYTES: usize = 1_048_576;
+pub const MOST_LINE_BYTES: usize = 16_777_216;
 
 /// The greatest size of a format that is compiled.
-pub const MOST_SIZE: u64 = 4_096;
+pub const MOST_SIZE: u64 = 8_192;
 
 /// The most slots of a format.
 pub const MOST_SLOTS: u32 = 128;
@@ -40,7 +40,7 @@ pub const MOST_RECORDS: u32 = 1_000_000;
 pub const MOST_RUN_BYTES: u64 = 4_611_686_018_427_387_904;
 
 /// The bytes of the buffer that holds the lines of a stream.
-pub const BUFFER_BYTES: usize = 4_194_304;
+pub const BUFFER_BYTES: usize = 33_554_432;
 
 /// The room that the buffer has at least where no whole line is held.
 pub const LEAST_ROOM: usize = 3_000_000;

@@ -9,7 +9,7 @@ use Rattle.lf_machine.specs.Sums.{most_sum}
 
 -- The marks and the points of a piece's moves stay small at the place.
 pub record IsNear (place : Place) : Type 0 where
-  pub low : place.above < 2 ^ 21
+  pub low : place.above < 2 ^ 22
   pub early : place.base ≤ most_sum
 
 -- a list of one move

@@ -60,7 +60,7 @@ fn decode_parts(
 
 /// The value that the moves tell; their marks are raised by `above`.
 fn decode_slot(alloc: Global, slot: &Slot, moves: &[Move], above: u32) -> Result<Value, OutOfMemory>
-    requires { above < 2 ^ 21 }
+    requires { above < 2 ^ 22 }
     ensures { (v : Value) → IsOfValue slot.now above moves.now v → IfOk result (λ w. w ≡ v) }
 {
     if is_dash(moves, above) {
@@ -85,7 +85,7 @@ fn front_len(moves: &[Move], above: u32) -> usize
 
 /// Whether the first move is that of the dash of absence.
 fn is_dash(moves: &[Move], above: u32) -> bool
-    requires { above < 2 ^ 21 }
+    requires { above < 2 ^ 22 }
     ensures { result ≡ tells_dash above moves.now }
 {
     match moves.split_first() {

@@ -18,7 +18,7 @@ pub const MARKS: u32 = 259;
 pub fn marks_of(parts: &[PiecePart]) -> u32
     requires { length parts.now ≤ most_size }
     ensures exact { result ≡ line_marks parts.now }
-    ensures most { result < 2 ^ 21 }
+    ensures most { result < 2 ^ 22 }
 {
     MARKS * parts.len() as u32
 }

@@ -1,5 +1,6 @@
 pub mod Leading
 pub mod Records
+pub mod Adding
 pub mod Parted
 pub mod Answered
 pub mod Steps

@@ -1,5 +1,5 @@
--- What a record's values keep, and what is filled.
-use Rattle.std.proofs.Common.{◌≡◌, ℕ, suc, ◌+◌, ◌<◌, inl, inr, Bool, true, false, List, [], ◌∷◌, ◌++◌, length, refl, sym, ap, subst, ◌∙◌, append-nil, append_assoc, arith}
+-- What a record's values keep, and that a map makes one thing of it.
+use Rattle.std.proofs.Common.{◌≡◌, ℕ, suc, ◌+◌, ◌<◌, inl, inr, List, [], ◌∷◌, ◌++◌, length, refl, sym, ap, ◌∙◌, arith}
 use Rattle.std.specs.Prelude.{All, ℤ, Option, None, Some}
 use Rattle.std.proofs.lemmas.List.Elements.{All-nil, All-cons}
 use Rattle.lf_core.specs.declared.values.Moment.{Moment}
@@ -20,10 +20,8 @@ use Rattle.lf_format.proofs.Deciding.{holds_decided}
 use Rattle.lf_expression.specs.declared.expr.Expr.{Expr as CodeExpr}
 use Rattle.lf_expression.specs.Answers.{IsDated}
 use Rattle.lf_expression.specs.Exprs.{Expr, exprs_said}
-use Rattle.lf_map.specs.declared.mapping.Mapped.{Mapped}
-use Rattle.lf_map.specs.declared.mapping.Mapped.TheVariants.{Rec, Unmapped}
-use Rattle.lf_map.specs.Shape.{MapShape, AreKinded}
-use Rattle.lf_map.specs.Mapped.{IsPushed, Fills, Makes, IsMapped, IsOfTarget, mapped_record}
+use Rattle.lf_map.specs.Shape.{AreKinded}
+use Rattle.lf_map.specs.Mapped.{Mapped, Rec, Unmapped, Fills, Makes, mapped_record}
 
 moment_dated : (k : Kind) (m : Moment) → HoldsKind k (value.Moment m) → IsMoment m
 moment_dated (kind.Clf d) m h = h.0
@@ -65,36 +63,6 @@ kinded_length source (slot ∷ slots) (e ∷ es) h = let k = kinded_length sourc
 
 pub map_count : (source slots : List OneSlot) (es : List CodeExpr) → AreKinded source slots (exprs_said es) → length es ≡ length slots
 map_count source slots es h = sym (said_length es) ∙ kinded_length source slots (exprs_said es) h
-
-module _ (k : ℕ) (slot : OneSlot) (pieces : List Piece) (values : List (Option Value)) (done after : List Value) where
-  pub fill_on : (v : Option Value) (answer : Mapped) → IsPushed true slot v done after → Fills (k + 1) pieces values after answer → Fills k (Slot slot ∷ pieces) (v ∷ values) done answer
-  fill_on None answer h f = absurd h
-  fill_on (Some v) answer h f = inl (h.0, subst (λ (d : List Value). Fills (k + 1) pieces values d answer) h.1 f)
-
-  pub fill_ends : (v : Option Value) → IsPushed false slot v done after → Fills k (Slot slot ∷ pieces) (v ∷ values) done (Unmapped k)
-  fill_ends None h = refl
-  fill_ends (Some v) h = inr (h, refl)
-
-made_of : List Value → Mapped → List Value
-made_of other (Rec made) = made
-made_of other (Unmapped k) = other
-
-filled_record : (k : ℕ) (pieces : List Piece) (values : List (Option Value)) (done made : List Value) → Fills k pieces values done (Rec made) → (tail : List Value) × (made ≡ done ++ tail) × IsRecordOf pieces tail
-unfolding made_of
-filled_record k [] values done made h = ([], ap (λ (m : Mapped). made_of [] m) h ∙ sym (append-nil done), tt)
-filled_record k (Literal text ∷ pieces) values done made h = filled_record k pieces values done made h
-filled_record k (Slot slot ∷ pieces) [] done made h = absurd h
-filled_record k (Slot slot ∷ pieces) (None ∷ values) done made h = absurd (cc)
-filled_record k (Slot slot ∷ pieces) (Some v ∷ values) done made (inl h) =
-    let r = filled_record (k + 1) pieces values (done ++ v ∷ []) made h.1 in
-    (v ∷ r.0, r.1 ∙ append_assoc done (v ∷ []) r.0, (h.0, r.2))
-filled_record k (Slot slot ∷ pieces) (Some v ∷ values) done made (inr h) = let e = h.1 in absurd (cc)
-
-pub of_target : (map : MapShape) (rec : List Value) (answer : Mapped) → IsMapped map rec answer → IsOfTarget map answer
-of_target map rec (Rec made) h =
-    let r = filled_record 1 map.target.pieces (mapped_record (exprs_said map.exprs) rec) [] made h in
-    subst (λ (w : List Value). IsRecordOf map.target.pieces w) (sym r.1) r.2
-of_target map rec (Unmapped k) h = tt
 
 filled_one : (k : ℕ) (pieces : List Piece) (values : List (Option Value)) (done : List Value) (one other : Mapped) → Fills k pieces values done one → Fills k pieces values done other → one ≡ other
 filled_one k [] values done one other h e = h ∙ sym e

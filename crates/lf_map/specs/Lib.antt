@@ -4,5 +4,6 @@ pub mod Assigns
 pub mod Shape
 pub mod Filling
 pub mod Mapped
+pub mod Written
 pub mod Said
 pub mod Forms

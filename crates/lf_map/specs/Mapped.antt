@@ -1,28 +1,22 @@
 -- The record that a map makes of a record, or the first slot that holds no such value.
-use Rattle.std.specs.Prelude.{◌≡◌, ℕ, ◌+◌, ◌⊎◌, Bool, true, false, List, [], ◌∷◌, ◌++◌, Option, None, Some}
+use Rattle.std.specs.Prelude.{◌≡◌, ℕ, ◌+◌, ◌⊎◌, List, [], ◌∷◌, ◌++◌, Option, None, Some}
 use Rattle.lf_core.specs.declared.values.Value.{Value}
 use Rattle.lf_format.specs.declared.format.Piece.{Piece}
 use Rattle.lf_format.specs.declared.format.Piece.TheVariants.{Literal, Slot}
-use Rattle.lf_format.specs.declared.slot.Slot.{Slot as OneSlot}
 use Rattle.lf_format.specs.Slots.{Holds}
-use Rattle.lf_format.specs.Lines.{IsRecordOf}
 use Rattle.lf_expression.specs.Exprs.{Expr, exprs_said}
 use Rattle.lf_expression.specs.Values.{expr_value}
-use Rattle.lf_map.specs.declared.mapping.Mapped.{Mapped}
-use Rattle.lf_map.specs.declared.mapping.Mapped.TheVariants.{Rec, Unmapped}
 use Rattle.lf_map.specs.Shape.{MapShape}
+
+-- A record of the target, or the number of its first slot that holds no such value.
+pub data Mapped : Type 0 where
+  Rec : List Value → Mapped
+  Unmapped : ℕ → Mapped
 
 -- the values of the expressions, in the order of the target's slots
 abbrev pub mapped_record : List Expr → List Value → List (Option Value)
 mapped_record [] rec = []
 mapped_record (e ∷ es) rec = expr_value e rec ∷ mapped_record es rec
-
--- The value was added where the slot holds it, and else it is none that the slot holds.
-abbrev pub IsPushed : Bool → OneSlot → Option Value → List Value → List Value → Type 0
-IsPushed true slot (Some v) old new = Holds slot v × (new ≡ old ++ v ∷ [])
-IsPushed true slot None old new = ⊥
-IsPushed false slot (Some v) old new = Holds slot v → ⊥
-IsPushed false slot None old new = Unit {0}
 
 -- The answer of the pieces that are left, where the first slot of them has the number and the slots before hold these values.
 abbrev pub Fills : ℕ → List Piece → List (Option Value) → List Value → Mapped → Type 0
@@ -40,8 +34,3 @@ Makes target exprs rec answer = Fills 1 target (mapped_record exprs rec) [] answ
 -- THE MEANING: what the map makes of the record
 abbrev pub IsMapped : MapShape → List Value → Mapped → Type 0
 IsMapped map rec answer = Makes map.target.pieces (exprs_said map.exprs) rec answer
-
--- A record is one of the target.
-abbrev pub IsOfTarget : MapShape → Mapped → Type 0
-IsOfTarget map (Rec made) = IsRecordOf map.target.pieces made
-IsOfTarget map (Unmapped k) = Unit {0}

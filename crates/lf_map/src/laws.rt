@@ -6,10 +6,9 @@ ghost use Rattle.lf_format.specs.declared.format.Piece.{Piece};
 ghost use Rattle.lf_format.specs.declared.slot.Slot.{Slot};
 ghost use Rattle.lf_format.specs.Shape.{Shape};
 ghost use Rattle.lf_expression.specs.Exprs.{Expr};
-ghost use Rattle.lf_map.specs.declared.mapping.Mapped.{Mapped};
 ghost use Rattle.lf_map.specs.Letters.{parts_of};
 ghost use Rattle.lf_map.specs.Filling.{Answer, Form, Reads, ParsesMap};
-ghost use Rattle.lf_map.specs.Mapped.{Makes};
+ghost use Rattle.lf_map.specs.Mapped.{Mapped, Makes};
 
 /// A text has an answer between any two formats, and only one.
 pub fn one_answer()

@@ -16,5 +16,5 @@ mod strings;
 pub use fault::MapFault;
 pub use field_map::FieldMap;
 pub use laws::{one_answer, one_mapped, some_mapped};
-pub use mapping::{Mapped, apply};
+pub use mapping::write_mapped;
 pub use parsing::parse_map;

@@ -1,6 +1,7 @@
 pub mod Bits
 pub mod SameMachine
 pub mod Places
+pub mod PageCells
 pub mod Levels
 pub mod RunPairs
 pub mod Sweep

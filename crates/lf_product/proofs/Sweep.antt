@@ -9,13 +9,13 @@ use Rattle.std.proofs.lemmas.List.{take_more, take-append-drop, get_or-map, take
 use Rattle.std.proofs.lemmas.List.Elements.{Contains-push_cases, Contains-append_left}
 use Rattle.lf_core.specs.declared.marked.Move.{Move}
 use Rattle.lf_core.specs.Marked.{Machine}
-use Rattle.lf_product.specs.declared.pair.Pair.{Pair}
+use Rattle.lf_product.specs.declared.pair.SmallPair.{SmallPair}
 use Rattle.lf_product.specs.declared.arrivals.Arrival.{Arrival}
 use Rattle.lf_product.specs.Distance.{differed_by, Suffices}
 use Rattle.lf_product.specs.ByteSet.{HasByte}
 use Rattle.lf_product.specs.Cells.{steps_at}
 use Rattle.lf_product.specs.Arcs.{seen, lists_of}
-use Rattle.lf_product.specs.Level.{Reached, Grows, IsCovered, AreBefore, AreArrivals, StepBy, Tell, Follows, Going, room}
+use Rattle.lf_product.specs.Level.{Grows, IsCovered, AreBefore, AreArrivals, StepBy, Tell, Follows}
 
 pub contains_take : {X : Type 0} (xs : List X) (i : ℕ) (x : X) → Contains (take i xs) x → Contains xs x
 contains_take xs i x h = subst (λ ys. Contains ys x) (take-append-drop i xs) (Contains-append_left (take i xs) (drop i xs) x h)
@@ -29,12 +29,12 @@ contains_none x (k, lt, is) = absurd (omega (arith, lt))
 pub list_at : (vs : List (Vec Arrival Global)) (i : ℕ) (v : Vec Arrival Global) → i < length vs → v ≡ get_or vs i v → get_or (lists_of vs) i [] ≡ v.items
 list_at vs i v lt is = get_or-map (λ (w : Vec Arrival Global). w.items) vs i v [] lt ∙ ap (λ (w : Vec Arrival Global). w.items) (sym is)
 
-pub covered_grows : (n none : ℕ) (ds es : List ℕ) (x y : Arrival) (p : Pair) → Grows n none ds es → x.from < n → y.from < n → IsCovered n none ds x y p → IsCovered n none es x y p
+pub covered_grows : (n none : ℕ) (ds es : List ℕ) (x y : Arrival) (p : SmallPair) → Grows n none ds es → x.from < n → y.from < n → IsCovered n none ds x y p → IsCovered n none es x y p
 covered_grows n none ds es x y p g hx hy c b d lt h k e =
     let old : steps_at ds x.from y.from d < none = c b d lt h k e in
     let s = g.stays x.from y.from d hx hy old in omega (arith, s, old)
 
-pub before_grows : (m : Machine) (none : ℕ) (ds es : List ℕ) (p : Pair) → Grows m.count none ds es → AreBefore m none ds p → AreBefore m none es p
+pub before_grows : (m : Machine) (none : ℕ) (ds es : List ℕ) (p : SmallPair) → Grows m.count none ds es → AreBefore m none ds p → AreBefore m none es p
 before_grows m none ds es p g h a b d ha hb s =
     let old : steps_at ds a b d < none = h a b d ha hb s in
     let e = g.stays a b d ha hb old in omega (arith, e, old)
@@ -47,7 +47,7 @@ same_difference false d x y one =
     rw apart (grind arith)
 
 -- so the lists tell the steps
-pub tell : (m : Machine) (marked : Bool) (lists : List (List Arrival)) (p : Pair) → (p.left ≡ p.right → marked ≡ true) → AreArrivals m marked lists → Tell m lists p
+pub tell : (m : Machine) (marked : Bool) (lists : List (List Arrival)) (p : SmallPair) → (p.left ≡ p.right → marked ≡ true) → AreArrivals m marked lists → Tell m lists p
 tell m marked lists p one are = record {
   each_point = are.each_point;
   from_below = are.from_below;
@@ -84,10 +84,10 @@ differs t false true e h = ap not e
 differs t false false e h = absurd (cc)
 
 -- what suffices after a step, suffices before it with the step
-pub before_step : (m : Machine) (steps : ℕ) (x y : Arrival) (p : Pair) (d : Bool) → Follows m steps p → StepBy m x y p → (b : ℕ) × (b < 256) × HasByte x.bytes b × HasByte y.bytes b → differed_by d (record { mark = x.mark; to = p.left }) (record { mark = y.mark; to = p.right }) ≡ p.differed → Suffices m steps x.from y.from d
+pub before_step : (m : Machine) (steps : ℕ) (x y : Arrival) (p : SmallPair) (d : Bool) → Follows m steps p → StepBy m x y p → (b : ℕ) × (b < 256) × HasByte x.bytes b × HasByte y.bytes b → differed_by d (record { mark = x.mark; to = p.left }) (record { mark = y.mark; to = p.right }) ≡ p.differed → Suffices m steps x.from y.from d
 before_step m steps x y p d (k, is, way) step (b, low, hx, hy) e = rw is (p.left, p.right, p.differed, step b d low hx hy e, way)
 
-pub list_bound : (m : Machine) (vs : List (Vec Arrival Global)) (i : ℕ) (p : Pair) → Tell m (lists_of vs) p → i < m.count → i < length vs
+pub list_bound : (m : Machine) (vs : List (Vec Arrival Global)) (i : ℕ) (p : SmallPair) → Tell m (lists_of vs) p → i < m.count → i < length vs
 list_bound m vs i p are h = omega (arith, are.each_point, length-map vs (λ (w : Vec Arrival Global). w.items), h)
 
 pub contains_whole : {X : Type 0} (xs : List X) (i : ℕ) (x : X) → length xs ≤ i → Contains xs x → Contains (take i xs) x

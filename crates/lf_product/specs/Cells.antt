@@ -1,15 +1,16 @@
--- where distances stand, and when they are those of a machine
-use Rattle.std.specs.Prelude.{ℕ, ◌+◌, ◌*◌, ◌<◌, min, max, Bool, cond, eqb, List, Option, Some, None, slice_index}
+-- distances in their cells, and when they are those of a machine
+use Rattle.std.specs.Prelude.{ℕ, ◌<◌, Bool, cond, eqb, List, Option, Some, None, slice_index, slice_set}
 use Rattle.lf_core.specs.Marked.{Machine}
 use Rattle.lf_product.specs.Distance.{IsDistance}
+use Rattle.lf_product.specs.Pages.{cell}
 
--- the place of a flagged pair, whichever of the points comes first
-unfoldable pub cell : ℕ → ℕ → Bool → ℕ
-cell a b d = max a b * (max a b + 1) + 2 * min a b + cond d 1 0
-
--- what stands there
+-- what stands in the cell of a flagged pair
 unfoldable pub steps_at : List ℕ → ℕ → ℕ → Bool → ℕ
 steps_at ds a b d = slice_index ds (cell a b d)
+
+-- the same cells, with these steps in that one
+abbrev pub put_at : List ℕ → ℕ → ℕ → Bool → ℕ → List ℕ
+put_at ds a b d steps = slice_set ds (cell a b d) steps
 
 -- a distance, where it is not the number that stands for none
 abbrev pub answer : ℕ → ℕ → Option ℕ

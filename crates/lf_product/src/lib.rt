@@ -5,6 +5,7 @@ mod arrivals;
 mod byte_set;
 /// A law over the definitions: a machine is ambiguous or not.
 pub mod laws;
+mod pages;
 mod pair;
 mod pairs;
 mod search;

@@ -12,6 +12,14 @@ pub struct Pair {
     pub differed: bool,
 }
 
+/// A flagged pair of a machine of few points, in six bytes.
+#[derive(Clone, Copy, Debug)]
+pub(crate) struct SmallPair {
+    pub(crate) left: u16,
+    pub(crate) right: u16,
+    pub(crate) differed: bool,
+}
+
 impl Pair {
     /// Whether the pairs are the same.
     pub(crate) fn is(self, other: Pair) -> bool

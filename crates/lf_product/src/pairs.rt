@@ -5,8 +5,9 @@ ghost use Rattle.lf_core.specs.Written.{machine_of, written};
 ghost use Rattle.lf_limits.specs.Limits.{most_size};
 ghost use Rattle.lf_product.specs.Distance.{IsAmbiguous, IsDistance};
 
-use crate::pair::Pair;
-use crate::search::{NONE, distances_of, place};
+use crate::pages::{NONE, Pages};
+use crate::pair::SmallPair;
+use crate::search::distances_of;
 use lf_core::{Marked, OutOfMemory};
 use lf_written::Table;
 use std::alloc::Global;
@@ -16,7 +17,7 @@ use std::marker::Model;
 #[derive(Drop)]
 pub struct Pairs {
     table: Table,
-    distances: Vec<u32>,
+    distances: Pages,
 }
 
 impl Model for Pairs {
@@ -73,11 +74,11 @@ impl Pairs {
         requires right { b < (machine_of self.now).count }
         ensures { IsDistance (machine_of self.now) a b differed result }
     {
-        let steps = self.distances[place(Pair {
-            left: a,
-            right: b,
+        let steps = self.distances.get(SmallPair {
+            left: a as u16,
+            right: b as u16,
             differed,
-        })];
+        });
         if steps == NONE { None } else { Some(steps) }
     }
 

@@ -2,53 +2,45 @@
 ghost use Rattle.std.specs.Prelude.{◌≡◌, ℕ, ◌+◌, ◌*◌, ◌<◌, ◌≤◌, [], true, false, Bool, OnOk, IfOk};
 ghost use Rattle.lf_core.specs.Marked.{Machine, IsMachine};
 ghost use Rattle.lf_product.specs.Distance.{Suffices};
-ghost use Rattle.lf_product.specs.Cells.{cell, steps_at, IsExact};
+ghost use Rattle.lf_product.specs.Cells.{steps_at, IsExact};
 ghost use Rattle.lf_core.specs.Written.{machine_of};
 ghost use Rattle.lf_limits.specs.Limits.{most_size};
 ghost use Rattle.lf_product.specs.Arcs.{lists_of};
 ghost use Rattle.lf_product.specs.Level.{Complete, AllBefore, IsWhole, Standing, Going, Follows, AreArrivals, IsCovered, AreBefore, StepBy, Tell};
 
 use crate::arrivals::{Arrival, arrivals_of};
-use crate::pair::Pair;
+use crate::pages::{NONE, Pages};
+use crate::pair::SmallPair;
 use lf_core::OutOfMemory;
 use lf_written::Table;
 use std::alloc::Global;
 
-/// No distance yet.
-pub(crate) const NONE: u32 = u32::MAX;
-
-/// Where the distance of a flagged pair stands, whichever of its points comes first.
-pub(crate) fn place(pair: Pair) -> usize
-    requires left { pair.left < most_size }
-    requires right { pair.right < most_size }
-    ensures { result ≡ cell pair.left pair.right pair.differed }
-{
-    let low = pair.left.min(pair.right) as usize;
-    let high = pair.left.max(pair.right) as usize;
-    high * (high + 1) + 2 * low + usize::from(pair.differed)
-}
-
-/// Gives the pair its distance, if it has none yet.
+/// Gives the pair its distance, if it has none yet. It waits then, where a step can lead to it.
 fn reach(
     table: &Table,
-    distances: &mut Vec<u32>,
-    waiting: &mut Vec<Pair>,
-    pair: Pair,
+    distances: &mut Pages,
+    waiting: &mut Vec<SmallPair>,
+    pair: SmallPair,
     steps: u32,
 ) -> Result<(), OutOfMemory>
-    requires standing { Standing (machine_of table.now) NONE steps distances.old.items waiting.old.items }
+    requires standing { Standing (machine_of table.now) NONE steps distances.old waiting.old.items }
     requires left { pair.left < (machine_of table.now).count }
     requires right { pair.right < (machine_of table.now).count }
     requires way { Suffices (machine_of table.now) steps pair.left pair.right pair.differed }
     ensures going { OnOk result (Going (machine_of table.now) NONE steps
-        distances.old.items waiting.old.items distances.new.items waiting.new.items) }
-    ensures has { OnOk result (steps_at distances.new.items pair.left pair.right pair.differed < NONE) }
+        distances.old waiting.old.items distances.new waiting.new.items) }
+    ensures has { OnOk result (steps_at distances.new pair.left pair.right pair.differed < NONE) }
 {
-    let at = place(pair);
-    if distances[at] == NONE {
-        waiting.push(pair)?;
-        distances[at] = steps;
+    if distances.get(pair) != NONE {
+        return Ok(());
     }
+    distances.set(pair, steps)?;
+    if pair.left != pair.right {
+        if !pair.differed {
+            return Ok(());
+        }
+    }
+    waiting.push(pair)?;
     Ok(())
 }
 
@@ -56,18 +48,18 @@ fn reach(
 fn reach_if(
     is_so: bool,
     table: &Table,
-    distances: &mut Vec<u32>,
-    waiting: &mut Vec<Pair>,
-    pair: Pair,
+    distances: &mut Pages,
+    waiting: &mut Vec<SmallPair>,
+    pair: SmallPair,
     steps: u32,
 ) -> Result<(), OutOfMemory>
-    requires standing { Standing (machine_of table.now) NONE steps distances.old.items waiting.old.items }
+    requires standing { Standing (machine_of table.now) NONE steps distances.old waiting.old.items }
     requires left { pair.left < (machine_of table.now).count }
     requires right { pair.right < (machine_of table.now).count }
     requires way { is_so ≡ true → Suffices (machine_of table.now) steps pair.left pair.right pair.differed }
     ensures going { OnOk result (Going (machine_of table.now) NONE steps
-        distances.old.items waiting.old.items distances.new.items waiting.new.items) }
-    ensures has { OnOk result (is_so ≡ true → steps_at distances.new.items pair.left pair.right pair.differed < NONE) }
+        distances.old waiting.old.items distances.new waiting.new.items) }
+    ensures has { OnOk result (is_so ≡ true → steps_at distances.new pair.left pair.right pair.differed < NONE) }
 {
     if is_so {
         return reach(table, distances, waiting, pair, steps);
@@ -78,33 +70,33 @@ fn reach_if(
 /// Reaches the pairs from which these two moves lead to the pair.
 fn reach_by(
     table: &Table,
-    distances: &mut Vec<u32>,
-    waiting: &mut Vec<Pair>,
+    distances: &mut Pages,
+    waiting: &mut Vec<SmallPair>,
     x: &Arrival,
     y: &Arrival,
-    pair: Pair,
+    pair: SmallPair,
     steps: u32,
 ) -> Result<(), OutOfMemory>
-    requires standing { Standing (machine_of table.now) NONE steps distances.old.items waiting.old.items }
+    requires standing { Standing (machine_of table.now) NONE steps distances.old waiting.old.items }
     requires left { x.now.from < (machine_of table.now).count }
     requires right { y.now.from < (machine_of table.now).count }
     requires step { StepBy (machine_of table.now) x.now y.now pair }
     requires way { Follows (machine_of table.now) steps pair }
     ensures going { OnOk result (Going (machine_of table.now) NONE steps
-        distances.old.items waiting.old.items distances.new.items waiting.new.items) }
-    ensures has { OnOk result (IsCovered ((machine_of table.now).count) NONE distances.new.items x.now y.now pair) }
+        distances.old waiting.old.items distances.new waiting.new.items) }
+    ensures has { OnOk result (IsCovered ((machine_of table.now).count) NONE distances.new x.now y.now pair) }
 {
     if !x.bytes.meets(&y.bytes) {
         return Ok(());
     }
     let same = pair.left == pair.right && x.mark == y.mark;
-    let before = Pair {
-        left: x.from,
-        right: y.from,
+    let before = SmallPair {
+        left: x.from as u16,
+        right: y.from as u16,
         differed: true,
     };
     reach_if(pair.differed, table, distances, waiting, before, steps)?;
-    let before = Pair {
+    let before = SmallPair {
         differed: false,
         ..before
     };
@@ -122,7 +114,7 @@ fn reach_by(
 fn telling<'a>(
     marked: &'a [Vec<Arrival>],
     joined: &'a [Vec<Arrival>],
-    pair: Pair,
+    pair: SmallPair,
 ) -> &'a [Vec<Arrival>]
     ensures { (m : Machine) → AreArrivals m true (lists_of marked.now) → AreArrivals m false (lists_of joined.now)
         → Tell m (lists_of result.now) pair }
@@ -136,26 +128,21 @@ fn telling<'a>(
 /// Reaches each pair from which a step leads to the pair.
 fn reach_from(
     table: &Table,
-    distances: &mut Vec<u32>,
-    waiting: &mut Vec<Pair>,
+    distances: &mut Pages,
+    waiting: &mut Vec<SmallPair>,
     arrivals: &[Vec<Arrival>],
-    pair: Pair,
+    pair: SmallPair,
     steps: u32,
 ) -> Result<(), OutOfMemory>
-    requires standing { Standing (machine_of table.now) NONE steps distances.old.items waiting.old.items }
+    requires standing { Standing (machine_of table.now) NONE steps distances.old waiting.old.items }
     requires arrivals { Tell (machine_of table.now) (lists_of arrivals.now) pair }
     requires left { pair.left < (machine_of table.now).count }
     requires right { pair.right < (machine_of table.now).count }
     requires way { Follows (machine_of table.now) steps pair }
     ensures going { OnOk result (Going (machine_of table.now) NONE steps
-        distances.old.items waiting.old.items distances.new.items waiting.new.items) }
-    ensures has { OnOk result (AreBefore (machine_of table.now) NONE distances.new.items pair) }
+        distances.old waiting.old.items distances.new waiting.new.items) }
+    ensures has { OnOk result (AreBefore (machine_of table.now) NONE distances.new pair) }
 {
-    if pair.left != pair.right {
-        if !pair.differed {
-            return Ok(());
-        }
-    }
     for x in &arrivals[pair.left as usize] {
         for y in &arrivals[pair.right as usize] {
             reach_by(table, distances, waiting, x, y, pair, steps)?;
@@ -168,19 +155,19 @@ fn reach_from(
 fn next_level(
     alloc: Global,
     table: &Table,
-    distances: &mut Vec<u32>,
+    distances: &mut Pages,
     marked: &[Vec<Arrival>],
     joined: &[Vec<Arrival>],
-    level: &[Pair],
+    level: &[SmallPair],
     steps: u32,
-) -> Result<Vec<Pair>, OutOfMemory>
+) -> Result<Vec<SmallPair>, OutOfMemory>
     requires marked { AreArrivals (machine_of table.now) true (lists_of marked.now) }
     requires joined { AreArrivals (machine_of table.now) false (lists_of joined.now) }
     requires more { steps + 1 < NONE }
-    requires standing { Standing (machine_of table.now) NONE steps distances.old.items level.now }
+    requires standing { Standing (machine_of table.now) NONE steps distances.old level.now }
     ensures going { IfOk result (λ next. Going (machine_of table.now) NONE (steps + 1)
-        distances.old.items [] distances.new.items next.items) }
-    ensures has { OnOk result (AllBefore (machine_of table.now) NONE distances.new.items level.now) }
+        distances.old [] distances.new next.items) }
+    ensures has { OnOk result (AllBefore (machine_of table.now) NONE distances.new level.now) }
 {
     let mut waiting = Vec::new(alloc);
     for pair in level {
@@ -194,16 +181,16 @@ fn next_level(
 fn first_level(
     alloc: Global,
     table: &Table,
-    distances: &mut Vec<u32>,
-) -> Result<Vec<Pair>, OutOfMemory>
+    distances: &mut Pages,
+) -> Result<Vec<SmallPair>, OutOfMemory>
     requires lawful { IsMachine (machine_of table.now) }
     requires few { (machine_of table.now).count ≤ most_size }
-    requires whole { IsWhole (machine_of table.now) distances.old.items }
+    requires whole { IsWhole (machine_of table.now) distances.old }
     requires none { (a b : ℕ) (d : Bool) → a < (machine_of table.now).count → b < (machine_of table.now).count →
-        steps_at distances.old.items a b d ≡ NONE }
+        steps_at distances.old a b d ≡ NONE }
     ensures going { IfOk result (λ next. Going (machine_of table.now) NONE 0
-        distances.old.items [] distances.new.items next.items) }
-    ensures has { OnOk result (Complete (machine_of table.now) ((machine_of table.now).count) 0 distances.new.items) }
+        distances.old [] distances.new next.items) }
+    ensures has { OnOk result (Complete (machine_of table.now) ((machine_of table.now).count) 0 distances.new) }
 {
     let mut waiting = Vec::new(alloc);
     for left in 0..table.points() {
@@ -214,9 +201,9 @@ fn first_level(
                         table,
                         distances,
                         &mut waiting,
-                        Pair {
-                            left,
-                            right,
+                        SmallPair {
+                            left: left as u16,
+                            right: right as u16,
                             differed: true,
                         },
                         0,
@@ -229,17 +216,16 @@ fn first_level(
 }
 
 /// The distances of a machine that is written out.
-pub(crate) fn distances_of(alloc: Global, table: &Table) -> Result<Vec<u32>, OutOfMemory>
+pub(crate) fn distances_of(alloc: Global, table: &Table) -> Result<Pages, OutOfMemory>
     requires lawful { IsMachine (machine_of table.now) }
     requires few { (machine_of table.now).count ≤ most_size }
     ensures exact { IfOk result
-        (λ ds. IsExact (machine_of table.now) ((machine_of table.now).count) NONE ds.items) }
-    ensures whole { IfOk result (λ ds. IsWhole (machine_of table.now) ds.items) }
+        (λ ds. IsExact (machine_of table.now) ((machine_of table.now).count) NONE ds) }
+    ensures whole { IfOk result (λ ds. IsWhole (machine_of table.now) ds) }
 {
-    let points = table.points() as usize;
     let marked = arrivals_of(alloc, table, true)?;
     let joined = arrivals_of(alloc, table, false)?;
-    let mut distances = vec![in alloc; NONE; points * (points + 1)]?;
+    let mut distances = Pages::none(alloc, table.points())?;
     let mut level = first_level(alloc, table, &mut distances)?;
     let mut steps = 0;
     'levels: while !level.is_empty() {

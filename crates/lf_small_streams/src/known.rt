@@ -138,8 +138,8 @@ fn long_lines_are_marked(rt: HostRuntime) {
             MOST_LINE_BYTES,
         ),
         (true, b"x", MOST_LINE_BYTES, "\r\n", Sort::Long, 0),
-        (true, b"#", 2_000_000, "\r\n", Sort::Note, 0),
-        (true, b"x", 2_000_000, "\n", Sort::Long, 0),
+        (true, b"#", 20_000_000, "\r\n", Sort::Note, 0),
+        (true, b"x", 20_000_000, "\n", Sort::Long, 0),
     ];
     for (notes, first, letters, end, sort, len) in cases {
         match long_lines(rt.alloc(), notes, first, letters, end) {

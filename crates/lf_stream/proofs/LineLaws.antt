@@ -70,7 +70,7 @@ next_ended l stream n at f s =
 held_length : (l : Lines) → length (held_bytes l.buffer) + l.buffer.start ≡ l.buffer.end
 held_length l =
     let b = l.buffer in
-    omega (arith, length-between b.bytes.items b.start b.end (omega (arith, b.whole, b.within)), b.from, b.to)
+    omega (arith, length-between b.bytes.items b.start b.end (omega (arith, b.filled)), b.from, b.to)
 
 pub next_last : (l : Lines) (stream : List ℕ) (n : ℕ) → l.finished ≡ true → HasNoFeed (held_bytes l.buffer) → l.buffer.start + 1 ≤ l.buffer.end + least_dropped l.first_sort → Stands l stream n → HasNext l stream n l.buffer.end l.buffer.end
 next_last l stream n over none some s =

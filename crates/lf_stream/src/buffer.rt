@@ -1,6 +1,6 @@
 //! The bytes that are held.
 
-ghost use Rattle.std.specs.Prelude.{◌≡◌, ◌≤◌, ◌+◌, ◌-◌, ◌<◌, ◌∷◌, ◌++◌, [], MatchOption, IfOk, length, slice_range};
+ghost use Rattle.std.specs.Prelude.{◌≡◌, ◌≤◌, ◌+◌, ◌-◌, ◌<◌, ◌∷◌, ◌++◌, [], MatchOption, IfOk, length, slice_range, vec_capacity};
 ghost use Rattle.lf_stream.specs.Cut.{HasNoFeed};
 ghost use Rattle.lf_limits.specs.Limits.{buffer_bytes, least_room};
 
@@ -10,13 +10,15 @@ use memchr::memchr;
 use std::alloc::Global;
 
 /// A buffer whose bytes from `start` up to `end` are held, with no line feed before `scanned`.
+/// All its memory is reserved at the start, and no more of it is touched than was filled.
 #[derive(Drop)]
 pub(crate) struct Buffer {
     pub(crate) bytes: Vec<u8>,
     pub(crate) start: usize,
     scanned: usize,
     pub(crate) end: usize,
-    ghost whole: { length bytes.items ≡ buffer_bytes },
+    ghost filled: { length bytes.items ≡ end },
+    ghost reserved: { buffer_bytes ≤ vec_capacity bytes },
     ghost from: { start ≤ scanned },
     ghost to: { scanned ≤ end },
     ghost within: { end ≤ buffer_bytes },
@@ -30,7 +32,7 @@ impl Buffer {
         ensures { IfOk result (λ b. (b.start ≡ 0) × (b.end ≡ 0)) }
     {
         Ok(Buffer {
-            bytes: vec![in alloc; 0u8; BUFFER_BYTES]?,
+            bytes: Vec::with_capacity(alloc, BUFFER_BYTES)?,
             start: 0,
             scanned: 0,
             end: 0,
@@ -44,9 +46,8 @@ impl Buffer {
         ensures start { self.new.start ≡ self.old.start }
         ensures end { self.new.end ≡ self.old.end + length piece.now }
     {
-        let end = self.end + piece.len();
-        self.bytes[self.end..end].copy_from_slice(piece);
-        self.end = end;
+        self.bytes.extend_from_slice(piece).unwrap();
+        self.end += piece.len();
     }
 
     /// Where the first line feed stands that is held.
@@ -74,7 +75,8 @@ impl Buffer {
         self.scanned = to;
     }
 
-    /// Moves the bytes to the start where little room is left behind them.
+    /// Moves the bytes to the start where that copies no more than was let go of, or where little room
+    /// is left behind them: so only as much of the buffer is touched as the lines that are held want.
     pub(crate) fn settle(&mut self)
         requires { self.old.end - self.old.start + least_room ≤ buffer_bytes }
         ensures bytes { held_bytes self.new ≡ held_bytes self.old }
@@ -82,9 +84,11 @@ impl Buffer {
         ensures shift { self.new.start + self.old.end ≡ self.old.start + self.new.end }
         ensures less { self.new.end ≤ self.old.end }
     {
-        if self.end > BUFFER_BYTES - LEAST_ROOM {
+        let held = self.end - self.start;
+        if (held <= self.start) | (self.end > BUFFER_BYTES - LEAST_ROOM) {
             self.bytes.copy_within(self.start..self.end, 0);
-            self.end -= self.start;
+            self.bytes.truncate(held);
+            self.end = held;
             self.scanned = 0;
             self.start = 0;
         }

@@ -108,7 +108,7 @@ impl Lines {
         requires some { self.old.buffer.start + 1 ≤ next + least_dropped self.old.first_sort }
         ensures taken { HasTaken self.old self.new next }
         ensures number { result.number ≡ self.old.given + 1 }
-        ensures within { result.start + result.len ≤ buffer_bytes }
+        ensures within { result.start + result.len ≤ self.new.buffer.end }
         ensures mark { (line : List ℕ) → Holds self.old.notes self.old.first_sort (slice_range self.old.buffer.bytes.items self.old.buffer.start to) line
             → IsMark self.old.notes self.old.buffer.bytes.items (line_of self.old.notes line) result }
     {
@@ -141,7 +141,7 @@ impl Lines {
         ensures next { (stream : List ℕ) (n : ℕ) → Stands self.old stream n → IsNextMark self.old.notes
             self.new.buffer.bytes.items (known_lines self.old.finished self.old.notes stream) n result }
         ensures moves { MovesOn self.old self.new (one_if_some result) }
-        ensures within { IfSome result (λ mark. mark.start + mark.len ≤ buffer_bytes) }
+        ensures within { IfSome result (λ mark. mark.start + mark.len ≤ self.new.buffer.end) }
         ensures none { IfNone result (HasNoFeed (held_bytes self.new.buffer)) }
         ensures kept { (self.new.buffer.bytes ≡ self.old.buffer.bytes) × (self.new.marks ≡ self.old.marks) }
     {
@@ -204,7 +204,7 @@ impl Lines {
 
     /// What a mark tells, with the bytes.
     fn body(&self, mark: &Mark) -> Body<'_>
-        requires { mark.now.start + mark.now.len ≤ buffer_bytes }
+        requires { mark.now.start + mark.now.len ≤ self.now.buffer.end }
         ensures { (line : List ℕ) → IsMark self.now.notes self.now.buffer.bytes.items line mark.now → IsBody self.now.notes line result }
     {
         match mark.sort {

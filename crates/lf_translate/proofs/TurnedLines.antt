@@ -5,10 +5,9 @@ use Rattle.lf_format.specs.Lines.{Prints, line_text}
 use Rattle.lf_format.specs.Shape.{Shape}
 use Rattle.lf_expression.specs.Exprs.{exprs_said}
 use Rattle.lf_map.specs.Filling.{IsMapOf}
-use Rattle.lf_map.specs.Mapped.{Makes, IsMapped}
+use Rattle.lf_map.specs.Mapped.{Mapped, Makes, IsMapped}
 use Rattle.lf_map.specs.Shape.{MapShape}
-use Rattle.lf_map.specs.declared.mapping.Mapped.{Mapped}
-use Rattle.lf_map.specs.declared.mapping.Mapped.TheVariants as mapped
+use Rattle.lf_map.specs.Mapped as mapped
 use Rattle.lf_translate.specs.Turning.{IsTurned}
 use Rattle.lf_translate.specs.declared.turning.Turned.{Turned}
 use Rattle.lf_translate.specs.declared.turning.Turned.TheVariants.{Line, Unmapped}

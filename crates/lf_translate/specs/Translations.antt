@@ -5,9 +5,8 @@ use Rattle.lf_format.specs.Lines.{Prints, line_text}
 use Rattle.lf_format.specs.Shape.{Shape}
 use Rattle.lf_expression.specs.Exprs.{Expr}
 use Rattle.lf_map.specs.Filling.{ParsesMap}
-use Rattle.lf_map.specs.Mapped.{Makes}
-use Rattle.lf_map.specs.declared.mapping.Mapped.{Mapped}
-use Rattle.lf_map.specs.declared.mapping.Mapped.TheVariants as mapped
+use Rattle.lf_map.specs.Mapped.{Mapped, Makes}
+use Rattle.lf_map.specs.Mapped as mapped
 use Rattle.lf_translate.specs.declared.turning.Turned.{Turned}
 use Rattle.lf_translate.specs.declared.turning.Turned.TheVariants.{Line, Unmapped}
 

@@ -4,7 +4,7 @@ use Rattle.lf_core.specs.declared.values.Value.{Value}
 use Rattle.lf_format.specs.Lines.{line_text}
 use Rattle.lf_map.specs.Shape.{MapShape}
 use Rattle.lf_map.specs.Mapped.{IsMapped}
-use Rattle.lf_map.specs.declared.mapping.Mapped.TheVariants as mapped
+use Rattle.lf_map.specs.Mapped as mapped
 use Rattle.lf_translate.specs.declared.turning.Turned.{Turned}
 use Rattle.lf_translate.specs.declared.turning.Turned.TheVariants.{Line, Unmapped}
 

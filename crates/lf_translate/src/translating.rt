@@ -72,6 +72,6 @@ impl Translation {
         let Some(record) = self.source.read(alloc, line)? else {
             return Ok(None);
         };
-        Ok(Some(translate_record(alloc, &self.map, &self.target, &record)?))
+        Ok(Some(translate_record(alloc, &self.map, &record)?))
     }
 }

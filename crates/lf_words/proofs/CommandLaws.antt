@@ -1,5 +1,5 @@
 -- Each list of words is one command, or it is bad.
-use Rattle.std.proofs.Common.{◌≡◌, ℕ, List, [], ◌∷◌, ◌<◌, ◌^◌, true, false, Option, None, Some, codes, get_or, drop, inl, inr, arith, refl, sym, ◌∙◌, ap, subst}
+use Rattle.std.proofs.Common.{◌≡◌, ℕ, List, [], ◌∷◌, ◌<◌, ◌^◌, Bool, true, false, Option, None, Some, codes, get_or, drop, inl, inr, arith, refl, sym, ◌∙◌, ap, subst}
 use Rattle.std.specs.Prelude.{◌⊎◌}
 use Rattle.std.specs.List.{list_all}
 use Rattle.std.proofs.lemmas.Bool.{cases_Bool}
@@ -8,11 +8,11 @@ use Rattle.lf_words.specs.declared.command.Side.{Side}
 use Rattle.lf_words.specs.declared.command.Front.{Front}
 use Rattle.lf_words.specs.declared.command.Verb.{Verb}
 use Rattle.lf_words.specs.declared.command.Verb.TheVariants.{Check, Read, Write, Translate, Show, Gen}
-use Rattle.lf_words.specs.Command.{verb_text, front_text, Given, value_of, option_words, AreOptionsOf, IsNumber, IsJobs, IsPlain, IsTranslate, IsGen, IsTail, is_word, IsCommand, IsOneCommandOrBad}
+use Rattle.lf_words.specs.Command.{verb_text, front_text, Given, value_of, option_words, AreOptionsOf, IsNumber, IsJobs, IsDash, IsPlain, IsTranslate, IsGen, IsTail, is_word, IsCommand, IsOneCommandOrBad}
 use Rattle.lf_words.specs.Reading.{pairs, AreOptionWords}
-use Rattle.lf_words.proofs.NameLaws.{verb_one, verb_cases, front_one, front_cases}
+use Rattle.lf_words.proofs.NameLaws.{verb_one, verb_cases, front_one, front_cases, dash_one, dash_cases}
 use Rattle.lf_words.proofs.NumberLaws.{number_one, number_cases, jobs_one, jobs_cases}
-use Rattle.lf_words.proofs.OptionLaws.{pairs_read, options_are_words, not_jobs, options_cases}
+use Rattle.lf_words.proofs.OptionLaws.{pairs_read, options_are_words, not_jobs, not_dash, options_cases}
 
 -- One command of the verb has these words after the verb, or none has.
 abbrev One : (List (List ℕ) → Command → Type 0) → Verb → List (List ℕ) → Type 0
@@ -33,6 +33,9 @@ narrow_to = codes "--narrow-to"
 abbrev jobs_in : List (List ℕ) → Option (List ℕ)
 jobs_in options = value_of (codes "--jobs") (pairs options)
 
+abbrev dash_in : List (List ℕ) → Option (List ℕ)
+dash_in options = value_of (codes "--dash") (pairs options)
+
 -- What is said by options is what stands in their words.
 said_narrow : (name : List ℕ) (rest : List (List ℕ)) (os : List Given) (found : Option (List ℕ)) → rest ≡ option_words os → found ≡ value_of name os → found ≡ value_of name (pairs rest)
 said_narrow name rest os found is e = e ∙ ap (λ (o : List Given). value_of name o) (sym (pairs_read rest os is))
@@ -41,32 +44,37 @@ said_jobs : (rest : List (List ℕ)) (os : List Given) (m n : ℕ) → rest ≡ 
 said_jobs rest os m n is said j =
     jobs_one (jobs_in rest) m n (subst (λ o. IsJobs (value_of (codes "--jobs") o) m) (sym (pairs_read rest os is)) said) j
 
+said_two : (rest : List (List ℕ)) (os : List Given) (a b : Bool) → rest ≡ option_words os → IsDash (value_of (codes "--dash") os) a → IsDash (dash_in rest) b → a ≡ b
+said_two rest os a b is said d =
+    dash_one (dash_in rest) a b (subst (λ o. IsDash (value_of (codes "--dash") o) a) (sym (pairs_read rest os is)) said) d
+
 known_words : (verb v : Verb) (rest : List (List ℕ)) (os : List Given) → v ≡ verb → rest ≡ option_words os → AreOptionsOf v os → AreOptionWords verb rest
 known_words verb v rest os e is known = options_are_words verb rest os is (subst (λ w. AreOptionsOf w os) e known)
 
 -- FRONT FORMAT and options.
-abbrev plain : Verb → Front → List ℕ → List (List ℕ) → ℕ → Command
-plain verb front format rest jobs = record { verb = verb; source = side front format narrow rest; target = None; map = None; seed = 0; count = 0; jobs = jobs }
+abbrev plain : Verb → Front → List ℕ → List (List ℕ) → ℕ → Bool → Command
+plain verb front format rest jobs two = record { verb = verb; source = side front format narrow rest; target = None; map = None; seed = 0; count = 0; jobs = jobs; two = two }
 
-plain_is : (verb : Verb) (a b : List ℕ) (rest : List (List ℕ)) (front : Front) (jobs : ℕ) → a ≡ front_text front → AreOptionWords verb rest → IsJobs (jobs_in rest) jobs → IsPlain (a ∷ b ∷ rest) (plain verb front b rest jobs)
-plain_is verb a b rest front jobs fe os j = record {
+plain_is : (verb : Verb) (a b : List ℕ) (rest : List (List ℕ)) (front : Front) (jobs : ℕ) (two : Bool) → a ≡ front_text front → AreOptionWords verb rest → IsJobs (jobs_in rest) jobs → IsDash (dash_in rest) two → IsPlain (a ∷ b ∷ rest) (plain verb front b rest jobs two)
+plain_is verb a b rest front jobs two fe os j t = record {
   options = pairs rest;
   spelled = ap (λ (w : List ℕ). w ∷ b ∷ rest) fe ∙ ap (λ (w : List (List ℕ)). front_text front ∷ b ∷ w) os.0;
-  says = record { known = os.1; narrow = refl; jobs = j };
+  says = record { known = os.1; narrow = refl; jobs = j; dash = t };
   target = refl;
   map = refl;
   seed = refl;
   count = refl;
 }
 
-plain_only : (verb : Verb) (a b : List ℕ) (rest : List (List ℕ)) (front : Front) (jobs : ℕ) → a ≡ front_text front → IsJobs (jobs_in rest) jobs → (d : Command) → d.verb ≡ verb → IsPlain (a ∷ b ∷ rest) d → d ≡ plain verb front b rest jobs
-plain_only verb a b rest front jobs fe j d e h =
+plain_only : (verb : Verb) (a b : List ℕ) (rest : List (List ℕ)) (front : Front) (jobs : ℕ) (two : Bool) → a ≡ front_text front → IsJobs (jobs_in rest) jobs → IsDash (dash_in rest) two → (d : Command) → d.verb ≡ verb → IsPlain (a ∷ b ∷ rest) d → d ≡ plain verb front b rest jobs two
+plain_only verb a b rest front jobs two fe j t d e h =
     let is : rest ≡ option_words h.options = (ap (λ (w : List (List ℕ)). drop 2 w) h.spelled) in
     let one : d.source.front ≡ front = front_one d.source.front front (sym (ap (λ (w : List (List ℕ)). get_or w 0 []) h.spelled) ∙ fe) in
     let format : d.source.format ≡ b = sym (ap (λ (w : List (List ℕ)). get_or w 1 []) h.spelled) in
     let narrowed : d.source.narrow ≡ value_of narrow (pairs rest) = said_narrow narrow rest h.options d.source.narrow is h.says.narrow in
     let many : d.jobs ≡ jobs = said_jobs rest h.options d.jobs jobs is h.says.jobs j in
-    λ i. record { verb = e i; source = record { front = one i; format = format i; narrow = narrowed i }; target = h.target i; map = h.map i; seed = h.seed i; count = h.count i; jobs = many i }
+    let apart : d.two ≡ two = said_two rest h.options d.two two is h.says.dash t in
+    λ i. record { verb = e i; source = record { front = one i; format = format i; narrow = narrowed i }; target = h.target i; map = h.map i; seed = h.seed i; count = h.count i; jobs = many i; two = apart i }
 
 plain_cases : (verb : Verb) (words : List (List ℕ)) → One IsPlain verb words
 plain_cases verb [] = inr (λ c e h. let s : [] ≡ front_text c.source.front ∷ c.source.format ∷ option_words h.options = h.spelled in cc)
@@ -78,22 +86,25 @@ plain_cases verb (a ∷ b ∷ rest) =
         | inr n ↦ inr (λ c e h. n (known_words verb c.verb rest h.options e (ap (λ (w : List (List ℕ)). drop 2 w) h.spelled) h.says.known))
         | inl os ↦ elim (jobs_cases (jobs_in rest)) [
           | inr n ↦ inr (λ c e h. not_jobs rest h.options c.jobs (ap (λ (w : List (List ℕ)). drop 2 w) h.spelled) h.says.jobs n)
-          | inl j ↦ inl (plain verb f.0 b rest j.0, refl, plain_is verb a b rest f.0 j.0 f.1 os j.1, plain_only verb a b rest f.0 j.0 f.1 j.1)
+          | inl j ↦ elim (dash_cases (dash_in rest)) [
+            | inr n ↦ inr (λ c e h. not_dash rest h.options c.two (ap (λ (w : List (List ℕ)). drop 2 w) h.spelled) h.says.dash n)
+            | inl t ↦ inl (plain verb f.0 b rest j.0 t.0, refl, plain_is verb a b rest f.0 j.0 t.0 f.1 os j.1 t.1, plain_only verb a b rest f.0 j.0 t.0 f.1 j.1 t.1)
+          ]
         ]
       ]
     ]
 
 -- FRONT FORMAT FRONT FORMAT MAP and options.
-abbrev translate : Front → List ℕ → Front → List ℕ → List ℕ → List (List ℕ) → ℕ → Command
-translate front format front_to format_to by rest jobs = record { verb = Translate; source = side front format narrow rest; target = Some (side front_to format_to narrow_to rest); map = Some by; seed = 0; count = 0; jobs = jobs }
+abbrev translate : Front → List ℕ → Front → List ℕ → List ℕ → List (List ℕ) → ℕ → Bool → Command
+translate front format front_to format_to by rest jobs two = record { verb = Translate; source = side front format narrow rest; target = Some (side front_to format_to narrow_to rest); map = Some by; seed = 0; count = 0; jobs = jobs; two = two }
 
-translate_is : (a b p q by : List ℕ) (rest : List (List ℕ)) (front front_to : Front) (jobs : ℕ) → a ≡ front_text front → p ≡ front_text front_to → AreOptionWords Translate rest → IsJobs (jobs_in rest) jobs → IsTranslate (a ∷ b ∷ p ∷ q ∷ by ∷ rest) (translate front b front_to q by rest jobs)
-translate_is a b p q by rest front front_to jobs fe pe os j = record {
+translate_is : (a b p q by : List ℕ) (rest : List (List ℕ)) (front front_to : Front) (jobs : ℕ) (two : Bool) → a ≡ front_text front → p ≡ front_text front_to → AreOptionWords Translate rest → IsJobs (jobs_in rest) jobs → IsDash (dash_in rest) two → IsTranslate (a ∷ b ∷ p ∷ q ∷ by ∷ rest) (translate front b front_to q by rest jobs two)
+translate_is a b p q by rest front front_to jobs two fe pe os j t = record {
   options = pairs rest;
   to = side front_to q narrow_to rest;
   by = by;
   spelled = ap (λ (w : List ℕ). w ∷ b ∷ p ∷ q ∷ by ∷ rest) fe ∙ ap (λ (w : List ℕ). front_text front ∷ b ∷ w ∷ q ∷ by ∷ rest) pe ∙ ap (λ (w : List (List ℕ)). front_text front ∷ b ∷ front_text front_to ∷ q ∷ by ∷ w) os.0;
-  says = record { known = os.1; narrow = refl; jobs = j };
+  says = record { known = os.1; narrow = refl; jobs = j; dash = t };
   narrow_to = refl;
   target = refl;
   map = refl;
@@ -101,8 +112,8 @@ translate_is a b p q by rest front front_to jobs fe pe os j = record {
   count = refl;
 }
 
-translate_only : (a b p q by : List ℕ) (rest : List (List ℕ)) (front front_to : Front) (jobs : ℕ) → a ≡ front_text front → p ≡ front_text front_to → IsJobs (jobs_in rest) jobs → (d : Command) → d.verb ≡ Translate → IsTranslate (a ∷ b ∷ p ∷ q ∷ by ∷ rest) d → d ≡ translate front b front_to q by rest jobs
-translate_only a b p q by rest front front_to jobs fe pe j d e h =
+translate_only : (a b p q by : List ℕ) (rest : List (List ℕ)) (front front_to : Front) (jobs : ℕ) (two : Bool) → a ≡ front_text front → p ≡ front_text front_to → IsJobs (jobs_in rest) jobs → IsDash (dash_in rest) two → (d : Command) → d.verb ≡ Translate → IsTranslate (a ∷ b ∷ p ∷ q ∷ by ∷ rest) d → d ≡ translate front b front_to q by rest jobs two
+translate_only a b p q by rest front front_to jobs two fe pe j t d e h =
     let is : rest ≡ option_words h.options = (ap (λ (w : List (List ℕ)). drop 5 w) h.spelled) in
     let one : d.source.front ≡ front = front_one d.source.front front (sym (ap (λ (w : List (List ℕ)). get_or w 0 []) h.spelled) ∙ fe) in
     let format : d.source.format ≡ b = sym (ap (λ (w : List (List ℕ)). get_or w 1 []) h.spelled) in
@@ -114,7 +125,8 @@ translate_only a b p q by rest front front_to jobs fe pe j d e h =
     let target : d.target ≡ Some (side front_to q narrow_to rest) = h.target ∙ ap (λ (t : Side). Some t) to in
     let map : d.map ≡ Some by = h.map ∙ ap (λ (t : List ℕ). Some t) (sym (ap (λ (w : List (List ℕ)). get_or w 4 []) h.spelled)) in
     let many : d.jobs ≡ jobs = said_jobs rest h.options d.jobs jobs is h.says.jobs j in
-    λ i. record { verb = e i; source = record { front = one i; format = format i; narrow = narrowed i }; target = target i; map = map i; seed = h.seed i; count = h.count i; jobs = many i }
+    let apart : d.two ≡ two = said_two rest h.options d.two two is h.says.dash t in
+    λ i. record { verb = e i; source = record { front = one i; format = format i; narrow = narrowed i }; target = target i; map = map i; seed = h.seed i; count = h.count i; jobs = many i; two = apart i }
 
 translate_cases : (words : List (List ℕ)) → One IsTranslate Translate words
 translate_cases [] = inr (λ c e h. let s : [] ≡ front_text c.source.front ∷ c.source.format ∷ front_text h.to.front ∷ h.to.format ∷ h.by ∷ option_words h.options = h.spelled in cc)
@@ -131,7 +143,10 @@ translate_cases (a ∷ b ∷ p ∷ q ∷ by ∷ rest) =
           | inr n ↦ inr (λ c e h. n (known_words Translate c.verb rest h.options e (ap (λ (w : List (List ℕ)). drop 5 w) h.spelled) h.says.known))
           | inl os ↦ elim (jobs_cases (jobs_in rest)) [
             | inr n ↦ inr (λ c e h. not_jobs rest h.options c.jobs (ap (λ (w : List (List ℕ)). drop 5 w) h.spelled) h.says.jobs n)
-            | inl j ↦ inl (translate f.0 b g.0 q by rest j.0, refl, translate_is a b p q by rest f.0 g.0 j.0 f.1 g.1 os j.1, translate_only a b p q by rest f.0 g.0 j.0 f.1 g.1 j.1)
+            | inl j ↦ elim (dash_cases (dash_in rest)) [
+              | inr n ↦ inr (λ c e h. not_dash rest h.options c.two (ap (λ (w : List (List ℕ)). drop 5 w) h.spelled) h.says.dash n)
+              | inl t ↦ inl (translate f.0 b g.0 q by rest j.0 t.0, refl, translate_is a b p q by rest f.0 g.0 j.0 t.0 f.1 g.1 os j.1 t.1, translate_only a b p q by rest f.0 g.0 j.0 t.0 f.1 g.1 j.1 t.1)
+            ]
           ]
         ]
       ]
@@ -144,24 +159,24 @@ most_seed = 0xffff_ffff_ffff_ffff
 abbrev most_count : ℕ
 most_count = 1_000_000
 
-abbrev gen : Front → List ℕ → ℕ → ℕ → List (List ℕ) → ℕ → Command
-gen front format seed count rest jobs = record { verb = Gen; source = side front format narrow rest; target = None; map = None; seed = seed; count = count; jobs = jobs }
+abbrev gen : Front → List ℕ → ℕ → ℕ → List (List ℕ) → ℕ → Bool → Command
+gen front format seed count rest jobs two = record { verb = Gen; source = side front format narrow rest; target = None; map = None; seed = seed; count = count; jobs = jobs; two = two }
 
-gen_is : (a b s t : List ℕ) (rest : List (List ℕ)) (front : Front) (seed count jobs : ℕ) → a ≡ front_text front → IsNumber most_seed s seed → IsNumber most_count t count → AreOptionWords Gen rest → IsJobs (jobs_in rest) jobs → IsGen (a ∷ b ∷ s ∷ t ∷ rest) (gen front b seed count rest jobs)
-gen_is a b s t rest front seed count jobs fe se ce os j = record {
+gen_is : (a b s t : List ℕ) (rest : List (List ℕ)) (front : Front) (seed count jobs : ℕ) (two : Bool) → a ≡ front_text front → IsNumber most_seed s seed → IsNumber most_count t count → AreOptionWords Gen rest → IsJobs (jobs_in rest) jobs → IsDash (dash_in rest) two → IsGen (a ∷ b ∷ s ∷ t ∷ rest) (gen front b seed count rest jobs two)
+gen_is a b s t rest front seed count jobs two fe se ce os j u = record {
   options = pairs rest;
   seed_text = s;
   count_text = t;
   spelled = ap (λ (w : List ℕ). w ∷ b ∷ s ∷ t ∷ rest) fe ∙ ap (λ (w : List (List ℕ)). front_text front ∷ b ∷ s ∷ t ∷ w) os.0;
-  says = record { known = os.1; narrow = refl; jobs = j };
+  says = record { known = os.1; narrow = refl; jobs = j; dash = u };
   target = refl;
   map = refl;
   seed = se;
   count = ce;
 }
 
-gen_only : (a b s t : List ℕ) (rest : List (List ℕ)) (front : Front) (seed count jobs : ℕ) → a ≡ front_text front → IsNumber most_seed s seed → IsNumber most_count t count → IsJobs (jobs_in rest) jobs → (d : Command) → d.verb ≡ Gen → IsGen (a ∷ b ∷ s ∷ t ∷ rest) d → d ≡ gen front b seed count rest jobs
-gen_only a b s t rest front seed count jobs fe se ce j d e h =
+gen_only : (a b s t : List ℕ) (rest : List (List ℕ)) (front : Front) (seed count jobs : ℕ) (two : Bool) → a ≡ front_text front → IsNumber most_seed s seed → IsNumber most_count t count → IsJobs (jobs_in rest) jobs → IsDash (dash_in rest) two → (d : Command) → d.verb ≡ Gen → IsGen (a ∷ b ∷ s ∷ t ∷ rest) d → d ≡ gen front b seed count rest jobs two
+gen_only a b s t rest front seed count jobs two fe se ce j u d e h =
     let is : rest ≡ option_words h.options = (ap (λ (w : List (List ℕ)). drop 4 w) h.spelled) in
     let one : d.source.front ≡ front = front_one d.source.front front (sym (ap (λ (w : List (List ℕ)). get_or w 0 []) h.spelled) ∙ fe) in
     let format : d.source.format ≡ b = sym (ap (λ (w : List (List ℕ)). get_or w 1 []) h.spelled) in
@@ -171,7 +186,8 @@ gen_only a b s t rest front seed count jobs fe se ce j d e h =
     let seed_is : d.seed ≡ seed = number_one most_seed s d.seed seed seed_fits (subst (λ x. IsNumber most_seed x d.seed) (sym (ap (λ (w : List (List ℕ)). get_or w 2 []) h.spelled)) h.seed) se in
     let count_is : d.count ≡ count = number_one most_count t d.count count count_fits (subst (λ x. IsNumber most_count x d.count) (sym (ap (λ (w : List (List ℕ)). get_or w 3 []) h.spelled)) h.count) ce in
     let many : d.jobs ≡ jobs = said_jobs rest h.options d.jobs jobs is h.says.jobs j in
-    λ i. record { verb = e i; source = record { front = one i; format = format i; narrow = narrowed i }; target = h.target i; map = h.map i; seed = seed_is i; count = count_is i; jobs = many i }
+    let apart : d.two ≡ two = said_two rest h.options d.two two is h.says.dash u in
+    λ i. record { verb = e i; source = record { front = one i; format = format i; narrow = narrowed i }; target = h.target i; map = h.map i; seed = seed_is i; count = count_is i; jobs = many i; two = apart i }
 
 gen_cases : (words : List (List ℕ)) → One IsGen Gen words
 gen_cases [] = inr (λ c e h. let x : [] ≡ front_text c.source.front ∷ c.source.format ∷ h.seed_text ∷ h.count_text ∷ option_words h.options = h.spelled in cc)
@@ -191,7 +207,10 @@ gen_cases (a ∷ b ∷ s ∷ t ∷ rest) =
             | inr n ↦ inr (λ c e h. n (known_words Gen c.verb rest h.options e (ap (λ (w : List (List ℕ)). drop 4 w) h.spelled) h.says.known))
             | inl os ↦ elim (jobs_cases (jobs_in rest)) [
               | inr n ↦ inr (λ c e h. not_jobs rest h.options c.jobs (ap (λ (w : List (List ℕ)). drop 4 w) h.spelled) h.says.jobs n)
-              | inl j ↦ inl (gen f.0 b x.0 y.0 rest j.0, refl, gen_is a b s t rest f.0 x.0 y.0 j.0 f.1 x.1 y.1 os j.1, gen_only a b s t rest f.0 x.0 y.0 j.0 f.1 x.1 y.1 j.1)
+              | inl j ↦ elim (dash_cases (dash_in rest)) [
+                | inr n ↦ inr (λ c e h. not_dash rest h.options c.two (ap (λ (w : List (List ℕ)). drop 4 w) h.spelled) h.says.dash n)
+                | inl u ↦ inl (gen f.0 b x.0 y.0 rest j.0 u.0, refl, gen_is a b s t rest f.0 x.0 y.0 j.0 u.0 f.1 x.1 y.1 os j.1 u.1, gen_only a b s t rest f.0 x.0 y.0 j.0 u.0 f.1 x.1 y.1 j.1 u.1)
+              ]
             ]
           ]
         ]

@@ -1,5 +1,5 @@
--- Each verb and each front has a word of its own.
-use Rattle.std.proofs.Common.{◌≡◌, ℕ, List, true, cond, codes, refl, sym, ◌∙◌, ap}
+-- Each verb, each front and each value of a lone dash has a word of its own.
+use Rattle.std.proofs.Common.{◌≡◌, ℕ, List, Bool, true, false, Option, None, Some, cond, codes, refl, sym, ◌∙◌, ap}
 use Rattle.std.specs.Prelude.{bytes_eq, ◌⊎◌}
 use Rattle.std.proofs.Common.{inl, inr}
 use Rattle.std.proofs.lemmas.Bool.{cases_Bool}
@@ -8,8 +8,8 @@ use Rattle.lf_words.specs.declared.command.Verb.{Verb}
 use Rattle.lf_words.specs.declared.command.Verb.TheVariants.{Check, Read, Write, Translate, Show, Gen}
 use Rattle.lf_words.specs.declared.command.Front.{Front}
 use Rattle.lf_words.specs.declared.command.Front.TheVariants.{Apache, Nginx, NginxJson, NginxNone, NginxDirective, Haproxy, Envoy, W3c, Iis}
-use Rattle.lf_words.specs.Command.{verb_text, front_text}
-use Rattle.lf_words.specs.Reading.{NamesNoVerb, NamesNoFront}
+use Rattle.lf_words.specs.Command.{verb_text, front_text, dash_text, IsDash}
+use Rattle.lf_words.specs.Reading.{NamesNoVerb, NamesNoFront, IsNoDash}
 
 -- Two texts are the same or not.
 pub same_or_not : (x y : List ℕ) → (x ≡ y) ⊎ (x ≡ y → ⊥)
@@ -125,4 +125,26 @@ front_cases word =
                       ]
                 ]
           ]
+    ]
+
+abbrev two_at : List ℕ → Bool
+two_at word = bytes_eq word (codes "two")
+
+two_back : (two : Bool) → two_at (dash_text two) ≡ two
+two_back true = refl
+two_back false = refl
+
+pub dash_one : (value : Option (List ℕ)) (a b : Bool) → IsDash value a → IsDash value b → a ≡ b
+dash_one None a b p q = p ∙ sym q
+dash_one (Some text) a b p q = sym (two_back a) ∙ ap two_at (sym p ∙ q) ∙ two_back b
+
+pub dash_cases : (value : Option (List ℕ)) → ((two : Bool) × IsDash value two) ⊎ IsNoDash value
+dash_cases None = inl (false, refl)
+dash_cases (Some text) =
+    elim (same_or_not text (codes "one")) [
+      | inl e ↦ inl (false, e)
+      | inr a ↦ elim (same_or_not text (codes "two")) [
+        | inl e ↦ inl (true, e)
+        | inr b ↦ inr (λ two. elim two as (λ t. text ≡ dash_text t → ⊥) [ true ↦ b | false ↦ a ])
+      ]
     ]

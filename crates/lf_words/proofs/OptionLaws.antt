@@ -3,8 +3,8 @@ use Rattle.std.proofs.Common.{◌≡◌, ℕ, List, [], ◌∷◌, ◌≤◌, Op
 use Rattle.std.specs.Prelude.{◌⊎◌}
 use Rattle.std.proofs.Common.{inl, inr}
 use Rattle.std.proofs.lemmas.Bool.{cases_Bool}
-use Rattle.lf_words.specs.Command.{Given, value_of, has_option, option_words, AreOptionsOf, IsJobs}
-use Rattle.lf_words.specs.Reading.{pairs, AreOptionWords, IsNoJobs}
+use Rattle.lf_words.specs.Command.{Given, value_of, has_option, option_words, AreOptionsOf, IsJobs, IsDash}
+use Rattle.lf_words.specs.Reading.{pairs, AreOptionWords, IsNoJobs, IsNoDash}
 use Rattle.lf_words.specs.declared.command.Verb.{Verb}
 
 pub words_pair : (ws : List (List ℕ)) (a : List ℕ) → 2 ≤ length ws → a ≡ get_or ws 0 a → ws ≡ a ∷ get_or ws 1 [] ∷ drop 2 ws
@@ -51,6 +51,10 @@ not_options verb v words options r is known e answer false_is =
 pub not_jobs : (words : List (List ℕ)) (options : List Given) (jobs : ℕ) → words ≡ option_words options → IsJobs (value_of (codes "--jobs") options) jobs → IsNoJobs (value_of (codes "--jobs") (pairs words)) → ⊥
 not_jobs words options jobs is said none =
     none jobs (subst (λ os. IsJobs (value_of (codes "--jobs") os) jobs) (sym (pairs_read words options is)) said)
+
+pub not_dash : (words : List (List ℕ)) (options : List Given) (two : Bool) → words ≡ option_words options → IsDash (value_of (codes "--dash") options) two → IsNoDash (value_of (codes "--dash") (pairs words)) → ⊥
+not_dash words options two is said none =
+    none two (subst (λ os. IsDash (value_of (codes "--dash") os) two) (sym (pairs_read words options is)) said)
 
 none_or_not : (v : Option (List ℕ)) → (v ≡ None) ⊎ (v ≡ None → ⊥)
 none_or_not None = inl refl

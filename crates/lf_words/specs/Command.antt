@@ -1,5 +1,5 @@
 -- The command lines: the words of each command.
-use Rattle.std.specs.Prelude.{◌≡◌, ℕ, ◌≤◌, ◌⊎◌, List, [], ◌∷◌, Option, None, Some, Bool, true, cond, ◌||◌, ◌&&◌, length, codes, decimal, leb}
+use Rattle.std.specs.Prelude.{◌≡◌, ℕ, ◌≤◌, ◌⊎◌, List, [], ◌∷◌, Option, None, Some, Bool, true, false, cond, ◌||◌, ◌&&◌, length, codes, decimal, leb}
 use Rattle.std.specs.List.{list_all}
 use Rattle.std.specs.Option.{ForSome}
 use Rattle.std.specs.Str.{IsUtf8, bytes_eq, is_utf8}
@@ -44,14 +44,18 @@ is_narrow_to name = bytes_eq name (codes "--narrow-to")
 abbrev pub is_jobs : List ℕ → Bool
 is_jobs name = bytes_eq name (codes "--jobs")
 
+-- the option that says whether absence and a lone dash are one value or two
+abbrev pub is_dash : List ℕ → Bool
+is_dash name = bytes_eq name (codes "--dash")
+
 -- The verb has an option of this name.
 abbrev pub has_option : Verb → List ℕ → Bool
-has_option Check name = is_narrow name
-has_option Read name = is_narrow name || is_jobs name
-has_option Write name = is_narrow name
-has_option Translate name = is_narrow name || is_narrow_to name || is_jobs name
-has_option Show name = is_narrow name
-has_option Gen name = is_narrow name || is_jobs name
+has_option Check name = is_narrow name || is_dash name
+has_option Read name = is_narrow name || is_dash name || is_jobs name
+has_option Write name = is_narrow name || is_dash name
+has_option Translate name = is_narrow name || is_narrow_to name || is_dash name || is_jobs name
+has_option Show name = is_narrow name || is_dash name
+has_option Gen name = is_narrow name || is_dash name || is_jobs name
 
 -- An option that stands in a command line.
 pub record Given : Type 0 where
@@ -83,11 +87,22 @@ abbrev pub IsJobs : Option (List ℕ) → ℕ → Type 0
 IsJobs None jobs = jobs ≡ 1
 IsJobs (Some text) jobs = (1 ≤ jobs) × IsNumber most_jobs text jobs
 
--- The options say how the source is narrowed and how many jobs there are.
+-- the word that says whether absence and a lone dash are two values
+abbrev pub dash_text : Bool → List ℕ
+dash_text true = codes "two"
+dash_text false = codes "one"
+
+-- Whether the option says that absence and a lone dash are two values: where it isn't given, they are one.
+abbrev pub IsDash : Option (List ℕ) → Bool → Type 0
+IsDash None two = two ≡ false
+IsDash (Some text) two = text ≡ dash_text two
+
+-- The options say how the source is narrowed, how many jobs there are, and whether a lone dash is a value of its own.
 pub record Says (verb : Verb) (options : List Given) (c : Command) : Type 0 where
   pub known : AreOptionsOf verb options
   pub narrow : c.source.narrow ≡ value_of (codes "--narrow") options
   pub jobs : IsJobs (value_of (codes "--jobs") options) c.jobs
+  pub dash : IsDash (value_of (codes "--dash") options) c.two
 
 -- The words after the verb where they are FRONT FORMAT and options.
 pub record IsPlain (words : List (List ℕ)) (c : Command) : Type 0 where

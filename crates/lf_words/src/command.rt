@@ -63,4 +63,6 @@ pub struct Command {
     pub count: u32,
     /// How many jobs share the lines; 1 where the words say none.
     pub jobs: u32,
+    /// Whether absence and a lone dash are two values of the source, not one.
+    pub two: bool,
 }

@@ -1,8 +1,8 @@
 //! The words of verbs, fronts and options.
 
 ghost use Rattle.std.specs.Prelude.{◌≡◌, MatchOption, bytes_eq, codes};
-ghost use Rattle.lf_words.specs.Command.{verb_text, front_text, has_option};
-ghost use Rattle.lf_words.specs.Reading.{NamesNoVerb, NamesNoFront};
+ghost use Rattle.lf_words.specs.Command.{verb_text, front_text, dash_text, has_option};
+ghost use Rattle.lf_words.specs.Reading.{NamesNoVerb, NamesNoFront, NamesNoDash};
 
 use crate::command::{Front, Verb};
 
@@ -37,16 +37,29 @@ pub(crate) fn front_of(word: &str) -> Option<Front>
     }
 }
 
+/// Whether the word says that absence and a lone dash are two values.
+pub(crate) fn dash_of(word: &str) -> Option<bool>
+    ensures { MatchOption result (NamesNoDash word.now) (λ two. word.now ≡ dash_text two) }
+{
+    match word {
+        "one" => Some(false),
+        "two" => Some(true),
+        _ => None,
+    }
+}
+
 /// Whether the verb has an option of this name.
 pub(crate) fn has_name(verb: Verb, name: &str) -> bool
     ensures { result ≡ has_option verb name.now }
 {
     match verb {
-        Verb::Check => name == "--narrow",
-        Verb::Read => (name == "--narrow") | (name == "--jobs"),
-        Verb::Write => name == "--narrow",
-        Verb::Translate => (name == "--narrow") | (name == "--narrow-to") | (name == "--jobs"),
-        Verb::Show => name == "--narrow",
-        Verb::Gen => (name == "--narrow") | (name == "--jobs"),
+        Verb::Check => (name == "--narrow") | (name == "--dash"),
+        Verb::Read => (name == "--narrow") | (name == "--dash") | (name == "--jobs"),
+        Verb::Write => (name == "--narrow") | (name == "--dash"),
+        Verb::Translate => {
+            (name == "--narrow") | (name == "--narrow-to") | (name == "--dash") | (name == "--jobs")
+        }
+        Verb::Show => (name == "--narrow") | (name == "--dash"),
+        Verb::Gen => (name == "--narrow") | (name == "--dash") | (name == "--jobs"),
     }
 }

@@ -1,11 +1,11 @@
 //! The options behind a command.
 
 ghost use Rattle.std.specs.Prelude.{◌≡◌, ◌↔◌, IfOk, IsTrue, MatchOption, option_copied};
-ghost use Rattle.lf_words.specs.Command.{value_of, IsJobs};
-ghost use Rattle.lf_words.specs.Reading.{pairs, AreOptionWords, IsNoJobs, jobs_text};
+ghost use Rattle.lf_words.specs.Command.{value_of, IsJobs, IsDash};
+ghost use Rattle.lf_words.specs.Reading.{pairs, AreOptionWords, IsNoJobs, jobs_text, IsNoDash, said_dash};
 
 use crate::command::Verb;
-use crate::names::has_name;
+use crate::names::{dash_of, has_name};
 use crate::numbers::number_of;
 use lf_core::{OutOfMemory, Str};
 use lf_limits::MOST_JOBS;
@@ -74,4 +74,14 @@ pub(crate) fn jobs_of(options: &[Str]) -> Option<u32>
         return None;
     }
     Some(jobs as u32)
+}
+
+/// Whether absence and a lone dash are to be two values.
+pub(crate) fn two_of(options: &[Str]) -> Option<bool>
+    ensures { MatchOption result (IsNoDash (said_dash options.now)) (IsDash (said_dash options.now)) }
+{
+    match find(options, "--dash") {
+        Some(value) => dash_of(value.as_str()),
+        None => Some(false),
+    }
 }

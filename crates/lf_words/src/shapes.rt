@@ -7,7 +7,7 @@ ghost use Rattle.lf_words.specs.Reading.{given_side, Reads};
 use crate::command::{Command, Front, Side, Verb};
 use crate::names::front_of;
 use crate::numbers::number_of;
-use crate::options::{are_options, jobs_of, text_of};
+use crate::options::{are_options, jobs_of, text_of, two_of};
 use lf_core::{OutOfMemory, Str};
 use lf_limits::MOST_RECORDS;
 use std::alloc::Global;
@@ -48,6 +48,9 @@ fn read_plain(alloc: Global, verb: Verb, words: &[Str]) -> Result<Option<Command
     let Some(jobs) = jobs_of(options) else {
         return Ok(None);
     };
+    let Some(two) = two_of(options) else {
+        return Ok(None);
+    };
     let source = side_of(alloc, front, words[1].as_str(), options, "--narrow")?;
     Ok(Some(Command {
         verb,
@@ -57,6 +60,7 @@ fn read_plain(alloc: Global, verb: Verb, words: &[Str]) -> Result<Option<Command
         seed: 0,
         count: 0,
         jobs,
+        two,
     }))
 }
 
@@ -80,6 +84,9 @@ fn read_translate(alloc: Global, words: &[Str]) -> Result<Option<Command>, OutOf
     let Some(jobs) = jobs_of(options) else {
         return Ok(None);
     };
+    let Some(two) = two_of(options) else {
+        return Ok(None);
+    };
     let source = side_of(alloc, front, words[1].as_str(), options, "--narrow")?;
     let target = side_of(alloc, front_to, words[3].as_str(), options, "--narrow-to")?;
     let map = Str::of(alloc, words[4].as_str())?;
@@ -91,6 +98,7 @@ fn read_translate(alloc: Global, words: &[Str]) -> Result<Option<Command>, OutOf
         seed: 0,
         count: 0,
         jobs,
+        two,
     }))
 }
 
@@ -117,6 +125,9 @@ fn read_gen(alloc: Global, words: &[Str]) -> Result<Option<Command>, OutOfMemory
     let Some(jobs) = jobs_of(options) else {
         return Ok(None);
     };
+    let Some(two) = two_of(options) else {
+        return Ok(None);
+    };
     let source = side_of(alloc, front, words[1].as_str(), options, "--narrow")?;
     Ok(Some(Command {
         verb: Verb::Gen,
@@ -126,6 +137,7 @@ fn read_gen(alloc: Global, words: &[Str]) -> Result<Option<Command>, OutOfMemory
         seed,
         count: count as u32,
         jobs,
+        two,
     }))
 }
 

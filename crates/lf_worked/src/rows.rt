@@ -44,7 +44,7 @@ gen¶apache¶%Z¶1¶1¦200¶¦2¦¦logfmt: source format: UnknownName at 0¶
 gen¶apache¶%s¶18446744073709551616¶1¦200¶¦2¦¦logfmt: bad command line¶
 gen¶w3c¶cs-uri¶1¶5¦200¶¦2¦¦logfmt: note line: ["#"]¶
 gen¶apache¶%B%D¶1¶5¦200¶¦1¦¦ambiguous¶line "110"¶first [1,10]¶second [11,0]¶
-gen¶apache¶%{A}i¶1¶5¶--narrow¶s1:len 0..400¦200¶¦7¦¦logfmt: size 5619 over 4096¶
+gen¶apache¶%{A}i¶1¶5¶--narrow¶s1:len 0..600¦200¶¦7¦¦logfmt: size 8419 over 8192¶
 show¶apache¶%h¶--narrow¶s1:present¦200¶¦0¦s1 %h text dash¶¦
 read¶apache¶%s ¶--narrow¶x¦200¶¦2¦¦logfmt: source narrowing: Syntax at 0¶
 check¶iis¶date¶--narrow¶s1:present¦200¶¦0¦readable 1¶¦
@@ -123,7 +123,7 @@ read¶apache¶%U¦a\nb¶a\x0ab¶\xff¶¦3¦["a\nb"]¶[{"hex":"ff"}]¶¦unread 2�
 check¶iis¶sc-status cs(User-Agent)¶--narrow¶s2:not +¦200 a␍¶¦0¦readable 2¶¦
 read¶iis¶sc-status cs(User-Agent)¶--narrow¶s2:not +¦200 a+b␍¶200 a b␍¶¦3¦[200,"a b"]¶¦unread 2¶
 read¶iis¶date time s-ip cs-method cs-uri-stem cs-uri-query s-port cs-username c-ip cs(User-Agent) cs(Referer) sc-status sc-substatus sc-win32-status time-taken¶--narrow¶*:not +¦2000-10-10 20:55:36 10.0.0.1 GET /a - 80 - 10.0.0.2 Mozilla/5.0+(x) - 200 0 0 15␍¶¦0¦["2000-10-10","20:55:36","10.0.0.1","GET","/a",null,80,null,"10.0.0.2","Mozilla/5.0 (x)",null,200,0,0,15]¶¦
-check¶apache¶%{A}i¶--narrow¶s1:len 0..400¦¦7¦¦logfmt: size 5619 over 4096¶
+check¶apache¶%{A}i¶--narrow¶s1:len 0..600¦¦7¦¦logfmt: size 8419 over 8192¶
 check¶apache¶%B¶--narrow¶s1:range -5..-1¦¦2¦¦logfmt: source narrowing: Empty s1¶
 check¶apache¶%B¶--narrow¶s2:present¦¦2¦¦logfmt: source narrowing: NoSlot s2¶
 check¶apache¶%B¶--narrow¶s1:not +¦¦2¦¦logfmt: source narrowing: WrongKind s1¶
@@ -167,9 +167,28 @@ translate¶apache¶%B%D¶apache¶%B¶s1=¦¦2¦¦logfmt: map: Syntax at 3¶
 translate¶apache¶%B%D¶apache¶%B¶s1=s1¦1-¶¦1¦¦ambiguous¶line "110"¶first [1,10]¶second [11,0]¶
 translate¶apache¶%B¶apache¶%B%D¶s1=s1;s2=s1¦1¶¦0¦11¶¦
 translate¶w3c¶cs-uri¶apache¶%B¶s1=1¦¦2¦¦logfmt: note line: ["#"]¶
-translate¶apache¶%{A}i¶apache¶%B¶s1=1¶--narrow¶s1:len 0..400¦¦7¦¦logfmt: size 5619 over 4096¶
+translate¶apache¶%{A}i¶apache¶%B¶s1=1¶--narrow¶s1:len 0..600¦¦7¦¦logfmt: size 8419 over 8192¶
 translate¶apache¶%B¶apache¶%B¶s1=s1¶--narrow¶s1:range 5..9¶--narrow-to¶s1:range 7..9¦4¶5¶8¶¦3¦8¶¦unread 1¶unmapped 2 s1¶
 translate¶apache¶%h¶apache¶%h¦¦2¦¦logfmt: bad command line¶
+check¶apache¶%h¶--dash¶two¦¦1¦ambiguous¶line "-"¶first [null]¶second ["-"]¶¦
+check¶apache¶%200b¶--dash¶two¦¦1¦ambiguous¶line "-"¶first [null]¶second [0]¶¦
+read¶apache¶%h¶--dash¶two¦-¶¦1¦¦ambiguous¶line "-"¶first [null]¶second ["-"]¶
+gen¶apache¶%h¶1¶5¶--dash¶two¦¦1¦¦ambiguous¶line "-"¶first [null]¶second ["-"]¶
+read¶apache¶%h¶--dash¶two¶--narrow¶s1:present¦-¶¦0¦["-"]¶¦
+read¶apache¶%h¶--dash¶two¶--narrow¶s1:not \x2d¦-¶¦0¦[null]¶¦
+read¶apache¶%h¶--narrow¶s1:present¶--dash¶one¦-¶¦3¦¦unread 1¶
+show¶apache¶%h¶--dash¶two¦¦0¦s1 %h text dash-two¶¦
+show¶apache¶%h¶--dash¶one¦¦0¦s1 %h text dash¶¦
+show¶haproxy¶%ci %{+Q}b %t¶--dash¶two¦¦0¦s1 %ci text dash-two¶s2 %b text blank¶s3 %t moment no¶¦
+check¶apache¶%h¶--narrow¶s1:only \x2d;s1:len 1..1;s1:present¦¦2¦¦logfmt: source narrowing: Empty s1¶
+check¶apache¶%h¶--narrow¶s1:only \x2d;s1:len 1..1;s1:present¶--dash¶two¦¦0¦readable 1¶¦
+read¶w3c¶cs(Referer)¶--dash¶two¦"-"¶-¶¦0¦["-"]¶[null]¶¦
+show¶w3c¶cs(Referer) date¶--dash¶two¦¦0¦s1 cs(Referer) text dash-two¶s2 date day dash-two¶¦
+write¶apache¶%h¶--dash¶two¦["-"]¶[null]¶¦0¦-¶-¶¦
+translate¶apache¶%h¶apache¶%h¶s1=s1¶--dash¶two¶--narrow¶s1:present¦-¶a¶¦3¦a¶¦unmapped 1 s1¶
+translate¶apache¶%h¶w3c¶cs(Referer)¶s1=s1¶--dash¶two¶--narrow¶s1:present¦-¶¦0¦"-"¶¦
+check¶apache¶%h¶--dash¶three¦¦2¦¦logfmt: bad command line¶
+check¶apache¶%Z¶--dash¶two¶--narrow¶x¦¦2¦¦logfmt: source format: UnknownName at 0¶
 "##;
 
 /// The text that a part of a row stands for.

@@ -2,7 +2,7 @@
 
 use crate::examples::{SOUND, Seen, Streams, expect, run_bytes, run_text};
 use lf_core::{Bytes, OutOfMemory, Str};
-use lf_limits::MOST_LINE_BYTES;
+use lf_limits::{MOST_LINE_BYTES, MOST_WORD_BYTES};
 use std::alloc::Global;
 use std::test::Fail;
 use std::thread::Threads;
@@ -191,19 +191,19 @@ fn letters_format<R: Threads + Sync>(
 
 #[test]
 fn formats_of_many_letters(rt: HostRuntime) -> Result<(), Fail> {
-    let seen = letters_format(&rt, rt.alloc(), "show", MOST_LINE_BYTES)?;
+    let seen = letters_format(&rt, rt.alloc(), "show", MOST_WORD_BYTES)?;
     assert!(rt; expect(&seen, 0, "", "").is_ok());
-    let seen = letters_format(&rt, rt.alloc(), "show", MOST_LINE_BYTES + 1)?;
+    let seen = letters_format(&rt, rt.alloc(), "show", MOST_WORD_BYTES + 1)?;
     assert!(rt; expect(&seen, 2, "", "logfmt: bad command line\n").is_ok());
     Ok(())
 }
 
 #[test]
 fn formats_at_the_limit_of_the_size(rt: HostRuntime) -> Result<(), Fail> {
-    let seen = letters_format(&rt, rt.alloc(), "check", 4094)?;
+    let seen = letters_format(&rt, rt.alloc(), "check", 8190)?;
     assert!(rt; expect(&seen, 0, "readable 0\n", "").is_ok());
-    let seen = letters_format(&rt, rt.alloc(), "check", 4095)?;
-    assert!(rt; expect(&seen, 7, "", "logfmt: size 4097 over 4096\n").is_ok());
+    let seen = letters_format(&rt, rt.alloc(), "check", 8191)?;
+    assert!(rt; expect(&seen, 7, "", "logfmt: size 8193 over 8192\n").is_ok());
     Ok(())
 }
 
@@ -229,9 +229,9 @@ fn letters_narrowing<R: Threads + Sync>(
 
 #[test]
 fn narrowings_of_many_letters(rt: HostRuntime) -> Result<(), Fail> {
-    let seen = letters_narrowing(&rt, rt.alloc(), MOST_LINE_BYTES)?;
+    let seen = letters_narrowing(&rt, rt.alloc(), MOST_WORD_BYTES)?;
     assert!(rt; expect(&seen, 0, "s1 %h text dash\n", "").is_ok());
-    let seen = letters_narrowing(&rt, rt.alloc(), MOST_LINE_BYTES + 1)?;
+    let seen = letters_narrowing(&rt, rt.alloc(), MOST_WORD_BYTES + 1)?;
     assert!(rt; expect(&seen, 2, "", "logfmt: bad command line\n").is_ok());
     Ok(())
 }

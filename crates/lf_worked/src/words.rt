@@ -45,7 +45,8 @@ fn command_text(alloc: Global, command: &Command) -> Result<String, AllocError> 
     let seed = command.seed;
     let count = command.count;
     let jobs = command.jobs;
-    format!(in alloc; "{verb:?}|{source}|{target}|{map}|{seed}|{count}|{jobs}")
+    let dash = if command.two { "two" } else { "one" };
+    format!(in alloc; "{verb:?}|{source}|{target}|{map}|{seed}|{count}|{jobs}|{dash}")
 }
 
 fn is_bad(answer: &Result<Command, WordFault>) -> bool {
@@ -55,51 +56,85 @@ fn is_bad(answer: &Result<Command, WordFault>) -> bool {
 #[test]
 fn commands(rt: HostRuntime) -> Result<(), Fail> {
     let rows = [
-        ("check|apache|%h", "Check|Apache|%h|none|none|none|0|0|1"),
+        (
+            "check|apache|%h",
+            "Check|Apache|%h|none|none|none|0|0|1|one",
+        ),
         (
             "check|nginx|$a|--narrow|s1:present",
-            "Check|Nginx|$a|s1:present|none|none|0|0|1",
+            "Check|Nginx|$a|s1:present|none|none|0|0|1|one",
         ),
         (
             "check|apache|--narrow",
-            "Check|Apache|--narrow|none|none|none|0|0|1",
+            "Check|Apache|--narrow|none|none|none|0|0|1|one",
         ),
         (
             "check|apache|--jobs|--narrow|--jobs",
-            "Check|Apache|--jobs|--jobs|none|none|0|0|1",
+            "Check|Apache|--jobs|--jobs|none|none|0|0|1|one",
         ),
         (
             "read|nginx-json|$a",
-            "Read|NginxJson|$a|none|none|none|0|0|1",
+            "Read|NginxJson|$a|none|none|none|0|0|1|one",
         ),
         (
             "read|nginx-none|$a|--narrow||--jobs|64",
-            "Read|NginxNone|$a||none|none|0|0|64",
+            "Read|NginxNone|$a||none|none|0|0|64|one",
         ),
         (
             "read|nginx-directive|x|--jobs|2|--narrow|--narrow",
-            "Read|NginxDirective|x|--narrow|none|none|0|0|2",
+            "Read|NginxDirective|x|--narrow|none|none|0|0|2|one",
         ),
         (
             "write|haproxy|%r|--narrow|n",
-            "Write|Haproxy|%r|n|none|none|0|0|1",
+            "Write|Haproxy|%r|n|none|none|0|0|1|one",
         ),
         (
             "translate|envoy|%A%|w3c|date|s1=s1",
-            "Translate|Envoy|%A%|none|W3c|date|none|s1=s1|0|0|1",
+            "Translate|Envoy|%A%|none|W3c|date|none|s1=s1|0|0|1|one",
         ),
         (
             "translate|iis|time|apache|--jobs|--narrow|--narrow-to|to|--jobs|3|--narrow|from",
-            "Translate|Iis|time|from|Apache|--jobs|to|--narrow|0|0|3",
+            "Translate|Iis|time|from|Apache|--jobs|to|--narrow|0|0|3|one",
         ),
         (
             "show|w3c|time|--narrow|*:not +",
-            "Show|W3c|time|*:not +|none|none|0|0|1",
+            "Show|W3c|time|*:not +|none|none|0|0|1|one",
         ),
-        ("gen|apache|%X|0|0", "Gen|Apache|%X|none|none|none|0|0|1"),
+        (
+            "gen|apache|%X|0|0",
+            "Gen|Apache|%X|none|none|none|0|0|1|one",
+        ),
+        (
+            "check|apache|%h|--dash|two",
+            "Check|Apache|%h|none|none|none|0|0|1|two",
+        ),
+        (
+            "check|apache|--dash|--dash|one",
+            "Check|Apache|--dash|none|none|none|0|0|1|one",
+        ),
+        (
+            "read|apache|%h|--jobs|2|--dash|two|--narrow|--dash",
+            "Read|Apache|%h|--dash|none|none|0|0|2|two",
+        ),
+        (
+            "write|apache|%h|--dash|one|--narrow|n",
+            "Write|Apache|%h|n|none|none|0|0|1|one",
+        ),
+        (
+            "translate|iis|time|apache|%h|s1=s1|--dash|two|--narrow-to|to",
+            "Translate|Iis|time|none|Apache|%h|to|s1=s1|0|0|1|two",
+        ),
+        (
+            "show|w3c|time|--dash|two",
+            "Show|W3c|time|none|none|none|0|0|1|two",
+        ),
+        (
+            "gen|apache|%X|0|0|--dash|two",
+            "Gen|Apache|%X|none|none|none|0|0|1|two",
+        ),
         (
             "gen|apache|%X|18446744073709551615|1000000|--jobs|64|--narrow|n",
-            "Gen|Apache|%X|n|none|none|18446744073709551615|1000000|64",
+            "Gen|Apache|%X|n|none|none|18446744073709551615|1000000|64|one",
         ),
     ];
     for (line, wanted) in rows {
@@ -141,6 +176,15 @@ fn bad_lines(rt: HostRuntime) -> Result<(), Fail> {
         "read|apache|%h|--jobs| 1",
         "read|apache|%h|--jobs|1.0",
         "read|apache|%h|--jobs|2|--jobs|2",
+        "check|apache|%h|--dash",
+        "check|apache|%h|--dash|",
+        "check|apache|%h|--dash|three",
+        "check|apache|%h|--dash|Two",
+        "check|apache|%h|--dash|two ",
+        "check|apache|%h|--dash|2",
+        "check|apache|%h|--dash|two|--dash|two",
+        "check|apache|%h|--dash|one|--dash|two",
+        "check|apache|%h|--dash=two",
         "gen|apache|%h|1",
         "gen|apache|%h|1|1000001",
         "gen|apache|%h|1|00",

@@ -31,7 +31,7 @@ pub record IsSpelled (text : List ℕ) (escape : Escape) (given : List Placed) :
   pub escape_is : escape_at (past is_white (joined parts ++ tail)) ≡ Some escape
   pub given_is : StringsGive (names_escape (past is_white (joined parts ++ tail))) (length head) parts given
 
--- An `escape=` with another value stands at the place.
+-- An `escape=` with another value stands at the place, which is that of its first letter.
 pub record IsBadEscape (text : List ℕ) (place : ℕ) : Type 0 where
   pub before : List ℕ
   pub rest : List ℕ

@@ -7,10 +7,10 @@ use Rattle.lf_app.proofs.commands.read_source.Goals as goal
 
 pub returns-in-Ok : goal.returns-in-Ok
 returns-in-Ok c =
-    IfOk-weaker c.ask.result (AsksOf c.args.purpose c.in-Ok.format) (BySide which.Source c.args.source.now (AsksOf c.args.purpose)) (λ command h. given c.in-Ok.format c.in-Ok.ensures.given h) c.ask.ensures
+    IfOk-weaker c.ask.result (AsksOf c.args.purpose c.in-Ok.format) (BySide which.Source c.args.two c.args.source.now (AsksOf c.args.purpose)) (λ command h. given c.in-Ok.format c.in-Ok.ensures.given h) c.ask.ensures
 
 pub returns-in-Err-Refused : goal.returns-in-Err-Refused
 returns-in-Err-Refused c =
     let why = c.in-Err-Refused in
-    let fault = subst (IsSideFault which.Source c.args.source.now) why.field-0-is why.ensures.fault in
+    let fault = subst (IsSideFault which.Source c.args.two c.args.source.now) why.field-0-is why.ensures.fault in
     rw why.refusal-is (faulty why.refusal fault refl)

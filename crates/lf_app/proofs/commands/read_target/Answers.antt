@@ -1,4 +1,4 @@
-use Rattle.std.proofs.Common.{refl, subst}
+use Rattle.std.proofs.Common.{false, refl, subst}
 use Rattle.std.proofs.lemmas.Result.{IfOk-weaker}
 use Rattle.lf_format.specs.Shape.{Shape}
 use Rattle.lf_app.specs.Commands.{BySide, faulty, given, AsksToMap}
@@ -10,10 +10,10 @@ use Rattle.lf_app.proofs.commands.read_target.Goals as goal
 pub returns-in-Ok : goal.returns-in-Ok
 returns-in-Ok c =
     let asks : Shape → Command → Type 0 = λ to. AsksToMap (record { source = c.args.source; target = to; map = c.args.text.now }) in
-    IfOk-weaker c.read_map.result (asks c.in-Ok.format) (BySide which.Target c.args.target.now asks) (λ command h. given c.in-Ok.format c.in-Ok.ensures.given h) c.read_map.ensures
+    IfOk-weaker c.read_map.result (asks c.in-Ok.format) (BySide which.Target false c.args.target.now asks) (λ command h. given c.in-Ok.format c.in-Ok.ensures.given h) c.read_map.ensures
 
 pub returns-in-Err-Refused : goal.returns-in-Err-Refused
 returns-in-Err-Refused c =
     let why = c.in-Err-Refused in
-    let fault = subst (IsSideFault which.Target c.args.target.now) why.field-0-is why.ensures.fault in
+    let fault = subst (IsSideFault which.Target false c.args.target.now) why.field-0-is why.ensures.fault in
     rw why.refusal-is (faulty why.refusal fault refl)

@@ -8,6 +8,7 @@ returns c = λ words.
     (record {
       sides = one_side c.one_answer.ensures c.one_answer-2.ensures;
       spelled = c.spelled_keeps.ensures;
+      told = c.two_keeps.ensures.keeps;
       narrowed = c.narrowed_keeps.ensures;
       answers = c.some_answer.ensures;
       maps = c.one_answer-4.ensures.some;

@@ -8,4 +8,4 @@ returns-in_default c = λ over stream found r.
 
 pub returns : goal.returns
 returns c = λ over stream found r.
-    next_read c.args.job.now over c.args.lines.now c.next.follows.lender-at-none c.args.report.now c.add.new.self stream found c.in-Some.line c.in_ok-said.said r (c.in-Some.ensures.next stream (length found) r.holds.stands) c.next.result c.in-Some.is c.next.follows.holds-at-none.0 c.in_ok-said.ensures.verdict c.in_ok-add.ensures.reports c.in_ok-add.ensures.count
+    next_read c.args.job.now over c.args.lines.now c.next.follows.lender-at-none c.args.report.now c.report_line.new.report stream found c.in-Some.line r (c.in-Some.ensures.next stream (length found) r.holds.stands) c.next.result c.in-Some.is c.next.follows.holds-at-none.0 c.in_ok-report_line.ensures.says c.in_ok-report_line.ensures.count

@@ -1,7 +1,8 @@
-use Rattle.std.proofs.Common.{refl, ap, ◌∙◌}
-use Rattle.std.specs.Prelude.{Err}
+use Rattle.std.proofs.Common.{refl, ap, ◌∙◌, subst}
+use Rattle.std.specs.Prelude.{Err, IfOk, IfErr}
 use Rattle.std.proofs.lemmas.Result.{IfOk-weaker, IfErr-weaker}
-use Rattle.lf_app.specs.Sides.{Leaves, Gives, misspelled, IsSideFault, IsNarrowingFault}
+use Rattle.lf_format.specs.Shape.{Shape}
+use Rattle.lf_app.specs.Sides.{dash_apart, Leaves, Gives, misspelled, IsSideFault, IsNarrowingFault}
 use Rattle.lf_app.proofs.SideLaws.{side_fault}
 use Rattle.lf_app.proofs.sides.read_side.Goals as goal
 
@@ -14,16 +15,20 @@ narrow_by-requires c = c.requires.narrow
 pub returns-in-Ok-clause-given : goal.returns-in-Ok-clause-given
 returns-in-Ok-clause-given c =
     let side = c.args.side.now in
-    let spelled = c.in-Ok.format in
+    let spelled = c.in-Ok.spelled in
     let spells = rw c.as_str.ensures at c.in-Ok.ensures.spelled in
-    IfOk-weaker c.narrow_by.result (Leaves side.narrow spelled) (Gives side) (λ left h. record { spelled = spelled; spells = spells; left = h }) c.narrow_by.ensures.left
+    let whole = dash_apart c.args.two spelled in
+    let left = subst (λ (f : Shape). IfOk c.narrow_by.result (Leaves side.narrow f)) c.told_apart.ensures c.narrow_by.ensures.left in
+    IfOk-weaker c.narrow_by.result (Leaves side.narrow whole) (Gives c.args.two side) (λ left h. record { spelled = spelled; spells = spells; left = h }) left
 
 pub returns-in-Ok-clause-fault : goal.returns-in-Ok-clause-fault
 returns-in-Ok-clause-fault c =
     let side = c.args.side.now in
-    let spelled = c.in-Ok.format in
+    let spelled = c.in-Ok.spelled in
     let spells = rw c.as_str.ensures at c.in-Ok.ensures.spelled in
-    IfErr-weaker c.narrow_by.result (IsNarrowingFault c.args.which side.narrow spelled) (IsSideFault c.args.which side) (λ f h. side_fault c.args.which side spelled f spells h) c.narrow_by.ensures.fault
+    let whole = dash_apart c.args.two spelled in
+    let fault = subst (λ (f : Shape). IfErr c.narrow_by.result (IsNarrowingFault c.args.which side.narrow f)) c.told_apart.ensures c.narrow_by.ensures.fault in
+    IfErr-weaker c.narrow_by.result (IsNarrowingFault c.args.which side.narrow whole) (IsSideFault c.args.which c.args.two side) (λ f h. side_fault c.args.which c.args.two side spelled f spells h) fault
 
 pub returns-in-Err-At-clause-fault : goal.returns-in-Err-At-clause-fault
 returns-in-Err-At-clause-fault c =

@@ -1,4 +1,4 @@
-use Rattle.std.proofs.Common.{sym, subst}
+use Rattle.std.proofs.Common.{sym, subst, ◌∙◌}
 use Rattle.lf_core.specs.Marked.{IsMachine}
 use Rattle.lf_core.specs.Written.{WrittenMachine, machine_of}
 use Rattle.lf_core.specs.WrittenLaws.{written_is_machine}
@@ -11,10 +11,12 @@ use Rattle.lf_compile.proofs.finder.Finder.new.Goals as goal
 pub build-requires : goal.build-requires
 build-requires c =
     let pieces = c.args.machine in
-    subst (λ (w : WrittenMachine). IsMachine (machine_of w)) (sym c.requires) (written_is_machine (line_machine pieces) (line-marked pieces))
+    subst (λ (w : WrittenMachine). IsMachine (machine_of w)) (sym c.requires.table) (written_is_machine (line_machine pieces) (line-marked pieces))
 
 pub invariant_of-result : goal.invariant_of-result
 invariant_of-result c =
-    let pieces = c.args.machine in
-    subst (λ ps. AreTables ps c.in_ok-tables.tables) (sym c.new.ensures)
-    (built_tables (line_machine pieces) most_sets c.args.table c.in_ok-tables.tables (line-marked pieces) c.requires c.in_ok-tables.ensures)
+    let pieces = c.args.machine in (
+      subst (λ ps. AreTables ps c.in_ok-tables.tables) (sym c.new.ensures)
+          (built_tables (line_machine pieces) most_sets c.args.table c.in_ok-tables.tables (line-marked pieces) c.requires.table c.in_ok-tables.ensures),
+      c.requires.plan ∙ sym c.new.ensures,
+    )

@@ -13,5 +13,5 @@ returns-in-Some-clause-found c =
     let b = c.args.self.now in
     let first = λ (xs : List ℕ). NoneBefore (Passes (is_byte 10) (slice_range xs b.scanned b.end)) 0 (length (slice_range xs b.scanned b.end)) c.in-Some.ahead × Passes (is_byte 10) (slice_range xs b.scanned b.end) c.in-Some.ahead in
     let m = subst first c.deref.ensures.value c.in-Some.ensures in
-    let f = first_found b.bytes.items b.start b.scanned b.end c.in-Some.ahead b.from (omega (arith, b.within, b.whole)) b.clean m.0 m.1 in
+    let f = first_found b.bytes.items b.start b.scanned b.end c.in-Some.ahead b.from (omega (arith, b.filled)) b.clean m.0 m.1 in
     record { from = omega (arith, b.from); to = f.to; unended = f.unended; joined = f.joined }

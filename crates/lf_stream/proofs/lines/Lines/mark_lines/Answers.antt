@@ -28,3 +28,9 @@ returns-clause-marked c =
     let l = c.loop-count in
     let whole : l.count ≡ most_marks = omega (arith, l.auto.count-end, c.loop-count-test.false) in
     marked_text c.args.self.now l.self l.count _ _ l.invariant refl (ap (λ n. take n l.self.marks.items) (sym whole))
+
+pub returns-clause-all : goal.returns-clause-all
+returns-clause-all c = λ stream n s.
+    let l = c.loop-count in
+    let whole : l.count ≡ most_marks = omega (arith, l.auto.count-end, c.loop-count-test.false) in
+    omega (arith, whole, l.invariant.enough stream n s (omega (arith, whole)))

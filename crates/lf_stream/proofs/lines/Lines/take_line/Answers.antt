@@ -16,4 +16,4 @@ returns-clause-mark c = λ line holds.
     let whole : take start text ++ slice_range c.deref.result.now start c.args.to ++ drop c.args.to text ≡ text =
     ap (λ zs. take start text ++ zs ++ drop c.args.to text) same ∙ append_assoc (take start text) (slice_range text start c.args.to) (drop c.args.to text) ∙ sym (split_between text start c.args.to c.requires.from) in
     subst (λ zs. IsMark l.notes zs (line_of l.notes line) c.mark-mark.result) whole
-    (c.mark-mark.ensures.mark (take start text) (drop c.args.to text) line (length-take-le start text (omega (arith, l.buffer.whole, l.buffer.within, l.buffer.from, l.buffer.to))) (subst (λ zs. Holds l.notes l.first_sort zs line) (sym same) holds))
+    (c.mark-mark.ensures.mark (take start text) (drop c.args.to text) line (length-take-le start text (omega (arith, l.buffer.filled, l.buffer.from, l.buffer.to))) (subst (λ zs. Holds l.notes l.first_sort zs line) (sym same) holds))

@@ -1,0 +1,4 @@
+pub mod Reads
+pub mod Plain
+pub mod Decodes
+pub mod Rows
