@@ -1,6 +1,6 @@
 #!/usr/bin/env python3
-"""Writes LINES log lines of a KIND (short, plain, combined, hundredth, nginx, haproxy, iis, envoy) with a fixed seed:
-generate.py KIND LINES > LOG. Of `hundredth`, which has combined lines, each hundredth line is cut in two.
+"""Writes LINES log lines of a KIND (short, plain, combined, tenth, hundredth, nginx, haproxy, iis, envoy) with a fixed seed:
+generate.py KIND LINES > LOG. Of `tenth` and `hundredth`, which have combined lines, each tenth or hundredth line is cut in two.
 No line holds a byte that a server would escape, so a peer may copy texts into JSON as they stand."""
 import random
 import sys
@@ -76,9 +76,17 @@ def haproxy():
             f'{{example.org}} {{}} "{request()}"')
 
 
-def hundredth(cut=iter(range(10**12))):
+def cut_each(count, lines=iter(range(10**12))):
     line = combined()
-    return line[:40] if next(cut) % 100 == 99 else line
+    return line[:40] if next(lines) % count == count - 1 else line
+
+
+def tenth():
+    return cut_each(10)
+
+
+def hundredth():
+    return cut_each(100)
 
 
 def day_and_clock(parted):
@@ -99,7 +107,7 @@ def envoy():
             f'"{pick.choice(AGENTS)}" "{pick.randrange(16**12):012x}" "example.org" "{address()}:{pick.randrange(1024, 65536)}"')
 
 
-KINDS = (short, plain, combined, hundredth, nginx, haproxy, iis, envoy)
+KINDS = (short, plain, combined, tenth, hundredth, nginx, haproxy, iis, envoy)
 
 
 def main():

@@ -2,7 +2,8 @@
 # Reads a million lines of each kind, made with a fixed seed, by logfmt on one core, and lets peers write the same JSON
 # (wc counts the lines). Wants cc and gawk (Debian's package gawk). Prints seconds, MB/s and the ratio to logfmt, and the
 # time that logfmt takes for a byte over that of a scanner in C, which is written by hand for combined lines (scanner.c).
-# usage: read.sh [KIND..], of short, plain, combined, hundredth (whose hundredth line isn't read), nginx, haproxy, iis, envoy
+# usage: read.sh [KIND..], of short, plain, combined, tenth, hundredth (whose tenth or hundredth lines aren't read), nginx,
+# haproxy, iis, envoy
 set -e
 cd "$(dirname "$0")/.."
 program=crates/logfmt/out/logfmt
@@ -67,7 +68,7 @@ measured() { # KIND FRONT FORMAT OPTION..
         same scanner
         compared logfmt wc gawk python scanner
         ;;
-    hundredth)
+    tenth | hundredth)
         timed scanner "$work/scanner"
         same scanner
         compared logfmt wc scanner
@@ -86,12 +87,12 @@ measured() { # KIND FRONT FORMAT OPTION..
 combined='%h %l %u %t "%r" %>s %b "%{Referer}i" "%{User-agent}i"'
 fields='date time s-ip cs-method cs-uri-stem cs-uri-query s-port cs-username c-ip cs(User-Agent) cs(Referer) sc-status sc-substatus sc-win32-status time-taken'
 envoy='[%START_TIME%] "%REQ(:METHOD)% %REQ(X-ENVOY-ORIGINAL-PATH?:PATH)% %PROTOCOL%" %RESPONSE_CODE% %RESPONSE_FLAGS% %BYTES_RECEIVED% %BYTES_SENT% %DURATION% %RESP(X-ENVOY-UPSTREAM-SERVICE-TIME)% "%REQ(X-FORWARDED-FOR)%" "%REQ(USER-AGENT)%" "%REQ(X-REQUEST-ID)%" "%REQ(:AUTHORITY)%" "%UPSTREAM_HOST%"'
-kinds=${*:-short plain combined hundredth nginx haproxy iis envoy}
+kinds=${*:-short plain combined tenth hundredth nginx haproxy iis envoy}
 for kind in $kinds; do
     case $kind in
     short) measured short apache '%h %s %B' ;;
     plain) measured plain apache '%h %l %u %>s %b' ;;
-    combined | hundredth) measured "$kind" apache "$combined" ;;
+    combined | tenth | hundredth) measured "$kind" apache "$combined" ;;
     nginx) measured nginx nginx '$remote_addr - $remote_user [$time_local] "$request" $status $body_bytes_sent "$http_referer" "$http_user_agent"' ;;
     haproxy) measured haproxy haproxy '%ci:%cp [%tr] %ft %b/%s %TR/%Tw/%Tc/%Tr/%Ta %ST %B %CC %CS %tsc %ac/%fc/%bc/%sc/%rc %sq/%bq %hr %hs %{+Q}r' ;;
     iis) measured iis iis "$fields" --narrow '*:not +' ;;

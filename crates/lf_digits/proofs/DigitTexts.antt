@@ -1,12 +1,12 @@
 -- Digits that are a number's text.
-use Rattle.std.proofs.Common.{◌≡◌, ◌≢◌, ℕ, zero, suc, ◌<◌, true, leb, ◌&&◌, List, [], ◌∷◌, ◌++◌, length, take, get_or, refl, sym, ap, subst, ◌∙◌, arith, ◌+◌, ◌*◌, ◌/◌, ◌%◌, ltb, append_assoc}
-use Rattle.std.specs.Prelude.{ℤ, pos, negsuc, neg_ℤ, ◌≤ℤ◌}
+use Rattle.std.proofs.Common.{◌≡◌, ◌≢◌, ℕ, zero, suc, ◌<◌, ◌≤◌, true, leb, ◌&&◌, List, [], ◌∷◌, ◌++◌, length, take, get_or, refl, sym, ap, subst, ◌∙◌, arith, ◌+◌, ◌-◌, ◌*◌, ◌/◌, ◌%◌, ltb, append_assoc}
+use Rattle.std.specs.Prelude.{replicate, ℤ, pos, negsuc, neg_ℤ, ◌≤ℤ◌}
 use Rattle.std.proofs.lemmas.Int.{ints}
 use Rattle.std.specs.List.{list_all}
 use Rattle.std.proofs.lemmas.Bool.{and_parts}
 use Rattle.std.proofs.lemmas.Bool.Decides.{nat_tests}
 use Rattle.lf_digits.specs.Reads.{ReadsNumber}
-use Rattle.lf_number.specs.Numbers.{dash_text, digits, digit_letter, decimal, last_digits, number_text, is_decimal_digit, is_plain_digits}
+use Rattle.lf_number.specs.Numbers.{dash_text, digits, digit_letter, decimal, last_digits, number_text, padded_text, width, is_decimal_digit, is_plain_digits}
 
 pub zero-text : decimal 0 ≡ 48 ∷ []
 unfolding digits digit_letter
@@ -71,3 +71,27 @@ reads-negative z lo hi text digits left old mid new some is low high parts sign 
   written = ap (λ (t : List ℕ). 45 ∷ t) parts ∙ ap (λ (t : List ℕ). t ++ left) (sym (negative-text z digits some is));
   added = added ∙ ap (λ (t : List ℕ). t ++ digits) sign ∙ append_assoc old (45 ∷ []) digits ∙ ap (λ (t : List ℕ). old ++ t) (sym (negative-text z digits some is));
 }
+
+-- The zeros at the front are zeros.
+pub front-zeros : (n : ℕ) (text : List ℕ) → n ≤ length text → ((k : ℕ) → k < n → get_or text k 0 ≡ 48) → take n text ≡ replicate n 48
+front-zeros zero text le h = refl
+front-zeros (suc n) [] le h = absurd (omega (arith, le))
+front-zeros (suc n) (c ∷ text) le h =
+    let first : c ≡ 48 = h 0 (omega arith) in
+    let rest : take n text ≡ replicate n 48 = front-zeros n text (omega (arith, le)) (λ k l. h (suc k) (omega (arith, l))) in
+    cc
+
+-- A number with leading zeros up to the width is read.
+pub reads-padded : (least lead : ℕ) (n lo hi : ℤ) (text ds more left old new : List ℕ) → pos 0 ≤ℤ n → number_text n ≡ ds → lead ≡ least - length ds → lo ≤ℤ n → n ≤ℤ hi
+    → text ≡ replicate lead 48 ++ more → more ≡ ds ++ left → new ≡ old ++ ds → ReadsNumber (padded_text 10 least) lo hi text left old new
+unfolding width
+reads-padded least lead (pos n) lo hi text ds more left old new some is enough low high front parts added =
+    let many : least - length (decimal n) ≡ lead = ap (λ (xs : List ℕ). least - length xs) is ∙ sym enough in
+    let whole : padded_text 10 least (pos n) ≡ replicate lead 48 ++ ds = ap (λ (k : ℕ). replicate k 48 ++ decimal n) many ∙ ap (λ (xs : List ℕ). replicate lead 48 ++ xs) is in
+    record {
+      number = pos n;
+      between = (low, high);
+      written = front ∙ ap (λ (xs : List ℕ). replicate lead 48 ++ xs) parts ∙ sym (append_assoc (replicate lead 48) ds left) ∙ ap (λ (xs : List ℕ). xs ++ left) (sym whole);
+      added = added ∙ ap (λ (xs : List ℕ). old ++ xs) (sym is);
+    }
+reads-padded least lead (negsuc n) lo hi text ds more left old new some is enough low high front parts added = absurd (omega (arith, ints, some))

@@ -1,5 +1,5 @@
 //! Decimal digits, and the numbers that they write.
-ghost use Rattle.std.specs.Prelude.{◌≡◌, ◌≤◌, ◌<◌, ◌-◌, ◌^◌, ◌+◌, ◌++◌, ◌∷◌, [], ℕ, true, false, min, length, slice_index, IfSome};
+ghost use Rattle.std.specs.Prelude.{◌≡◌, ◌≤◌, ◌<◌, ◌-◌, ◌^◌, ◌+◌, ◌++◌, ◌∷◌, [], ℕ, true, false, min, replicate, length, slice_index, IfSome};
 ghost use Rattle.std.specs.List.{list_all};
 ghost use Rattle.lf_number.specs.Machines.{value_after};
 ghost use Rattle.lf_number.specs.Numbers.{is_decimal_digit, last_digits, number_text};
@@ -65,6 +65,27 @@ pub(crate) fn front_number(text: &[u8]) -> Option<(i64, &[u8], &[u8])>
     let (digits, left) = text.split_at(digits_len(text));
     let number = number_of(digits)?;
     Some((number, digits, left))
+}
+
+/// How many zeros the text begins with, at most so many.
+fn zeros_len(most: usize, text: &[u8]) -> usize
+    ensures within { result ≤ length text.now }
+    ensures zeros { (k : ℕ) → k < result → slice_index text.now k ≡ 48 }
+{
+    for (at, byte) in text.iter().enumerate() {
+        if *byte != b'0' || most <= at {
+            return at;
+        }
+    }
+    text.len()
+}
+
+/// How many zeros the text begins with, at most so many, and what follows them.
+pub(crate) fn front_zeros(most: usize, text: &[u8]) -> (usize, &[u8])
+    ensures { text.now ≡ replicate result.0 48 ++ result.1.now }
+{
+    let zeros = zeros_len(most, text);
+    (zeros, text.split_at(zeros).1)
 }
 
 /// The value of the digit, and what follows it.

@@ -4,4 +4,4 @@
 mod digits;
 mod numbers;
 
-pub use numbers::{read_dash_zero, read_fixed3, read_number};
+pub use numbers::{read_dash_zero, read_fixed3, read_number, read_padded};

@@ -2,9 +2,9 @@
 ghost use Rattle.std.specs.Prelude.{◌≡◌, ◌++◌, ◌∷◌, IfOk, IfSome, OnOk};
 ghost use Rattle.lf_core.specs.Adds.{BeginsWith};
 ghost use Rattle.lf_digits.specs.Reads.{ReadsNumber};
-ghost use Rattle.lf_number.specs.Numbers.{dash_text, number_text, thousandths_text};
+ghost use Rattle.lf_number.specs.Numbers.{dash_text, number_text, padded_text, thousandths_text};
 
-use crate::digits::{after_byte, front_number, three_digits};
+use crate::digits::{after_byte, front_number, front_zeros, three_digits};
 use itoa::Buffer;
 use lf_core::{Bytes, OutOfMemory};
 
@@ -89,6 +89,33 @@ pub fn read_dash_zero<'a>(
         return Ok(Some(left));
     };
     if number == 0 || number < lo || hi < number {
+        return Ok(None);
+    }
+    into.extend(digits)?;
+    Ok(Some(left))
+}
+
+/// Reads a number from `lo` to `hi` with leading zeros up to the width, and adds it; tells what is left, and none where
+/// the text doesn't fit.
+pub fn read_padded<'a>(
+    width: u8,
+    lo: i64,
+    hi: i64,
+    text: &'a [u8],
+    into: &mut Bytes,
+) -> Result<Option<&'a [u8]>, OutOfMemory>
+    ensures read { IfOk result (λ found. IfSome found (λ left. ReadsNumber (padded_text 10 width) lo hi text.now left.now into.old into.new)) }
+    ensures kept { BeginsWith into.new into.old }
+{
+    let least = width as usize;
+    let (zeros, more) = front_zeros(least.saturating_sub(1), text);
+    let Some((number, digits, left)) = front_number(more) else {
+        return Ok(None);
+    };
+    if zeros != least.saturating_sub(digits.len()) {
+        return Ok(None);
+    }
+    if number < 0 || number < lo || hi < number {
         return Ok(None);
     }
     into.extend(digits)?;

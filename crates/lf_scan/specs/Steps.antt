@@ -13,7 +13,7 @@ use Rattle.lf_scan.specs.declared.step.Step.{Step}
 use Rattle.lf_scan.specs.declared.step.Step.TheVariants as step
 use Rattle.lf_scan.specs.declared.slot_step.SlotStep.{SlotStep}
 use Rattle.lf_scan.specs.declared.value_step.ValueStep.{ValueStep}
-use Rattle.lf_scan.specs.declared.value_step.ValueStep.TheVariants.{Text, Query, Decimal, DashZero, Fixed3, Moment, Day, Clock, Exact}
+use Rattle.lf_scan.specs.declared.value_step.ValueStep.TheVariants.{Text, Query, Decimal, DashZero, Fixed3, Padded, Moment, Day, Clock, Exact}
 
 -- the domain whose values are read
 abbrev pub kind_of : ValueStep → Kind
@@ -22,6 +22,7 @@ kind_of (Query t) = kind.Query (query_of t)
 kind_of (Decimal d) = kind.Num d
 kind_of (DashZero d) = kind.DashZero d
 kind_of (Fixed3 d) = kind.Fixed3 d
+kind_of (Padded d) = kind.Padded d
 kind_of (Moment t) = moment_kind t
 kind_of (Day d) = kind.Date d
 kind_of (Clock d) = kind.Clock d
@@ -34,6 +35,7 @@ code_of (Query t) = t.letters.code
 code_of (Decimal d) = coding.Raw
 code_of (DashZero d) = coding.Raw
 code_of (Fixed3 d) = coding.Raw
+code_of (Padded d) = coding.Raw
 code_of (Moment t) = coding.Raw
 code_of (Day d) = coding.Raw
 code_of (Clock d) = coding.Raw

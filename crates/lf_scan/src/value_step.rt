@@ -5,11 +5,11 @@ ghost use Rattle.lf_scan.specs.Reads.{ReadsKind};
 ghost use Rattle.lf_scan.specs.Steps.{code_of, kind_of};
 
 use crate::exact_step::ExactStep;
-use crate::numbers::{read_dashed, read_decimal, read_thousandths};
+use crate::numbers::{read_dashed, read_decimal, read_padded_decimal, read_thousandths};
 use crate::text_step::{QueryStep, TextStep};
 use crate::time_step::{MomentStep, read_clock, read_day};
 use lf_core::{Bytes, OutOfMemory};
-use lf_domain::{DashZero, Fixed3, NumRange};
+use lf_domain::{DashZero, Fixed3, NumRange, Padded};
 use lf_escape::Coding;
 use lf_format::Kind;
 use lf_stamp::Recent;
@@ -24,6 +24,7 @@ pub enum ValueStep {
     Decimal(NumRange),
     DashZero(DashZero),
     Fixed3(Fixed3),
+    Padded(Padded),
     Moment(MomentStep),
     Day(W3cDate),
     Clock(W3cClock),
@@ -38,6 +39,7 @@ fn raw_step(kind: &Kind, stop: Option<u8>) -> Result<ValueStep, OutOfMemory>
         Kind::Num(domain) => Ok(ValueStep::Decimal(*domain)),
         Kind::DashZero(domain) => Ok(ValueStep::DashZero(*domain)),
         Kind::Fixed3(domain) => Ok(ValueStep::Fixed3(*domain)),
+        Kind::Padded(domain) => Ok(ValueStep::Padded(*domain)),
         Kind::Clf(time) => Ok(ValueStep::Moment(MomentStep::Clf(*time))),
         Kind::Iso(time) => Ok(ValueStep::Moment(MomentStep::Iso(*time))),
         Kind::IsoMillis(time) => Ok(ValueStep::Moment(MomentStep::IsoMillis(*time))),
@@ -90,6 +92,7 @@ impl ValueStep {
             ValueStep::Decimal(domain) => read_decimal(*domain, text, into),
             ValueStep::DashZero(domain) => read_dashed(*domain, text, into),
             ValueStep::Fixed3(domain) => read_thousandths(*domain, text, into),
+            ValueStep::Padded(domain) => read_padded_decimal(*domain, text, into),
             ValueStep::Moment(step) => step.read(recent, text, into),
             ValueStep::Day(domain) => read_day(*domain, text, into),
             ValueStep::Clock(domain) => read_clock(*domain, text, into),

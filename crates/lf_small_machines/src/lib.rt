@@ -10,6 +10,8 @@ mod forks;
 #[cfg(test)]
 mod known;
 #[cfg(test)]
+mod meetings;
+#[cfg(test)]
 mod small_machines;
 #[cfg(test)]
 mod tests;

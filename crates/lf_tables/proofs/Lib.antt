@@ -1,5 +1,6 @@
 pub mod Reach
 pub mod WayLaws
+pub mod MoverLaws
 pub mod NumberLaws
 pub mod CellLaws
 pub mod FoundLaws

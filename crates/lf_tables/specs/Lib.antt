@@ -3,3 +3,4 @@ pub mod Classes
 pub mod Ways
 pub mod Tabled
 pub mod Found
+pub mod Movers

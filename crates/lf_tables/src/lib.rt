@@ -3,6 +3,7 @@
 
 mod classes;
 mod grid;
+mod movers;
 mod search;
 mod sets;
 mod tables;

@@ -8,7 +8,9 @@ ghost use Rattle.lf_limits.specs.Limits.{most_sets};
 ghost use Rattle.lf_tables.specs.Reached.{ReachesMoreSets};
 ghost use Rattle.lf_tables.specs.Tabled.{cells_of, cell_at, set_at, HasWays, AreStored, IsEndOf};
 ghost use Rattle.lf_tables.specs.Found.{AreNumbered, AreFound};
+ghost use Rattle.lf_tables.specs.Movers.{AreMoversByClass};
 
+use crate::movers::Movers;
 use crate::sets::Sets;
 use crate::ways::{Back, points_of, ways_back};
 use lf_core::OutOfMemory;
@@ -97,8 +99,15 @@ impl Found {
     }
 
     /// Adds the next cell; false where its set would be one too many.
-    fn add_cell(&mut self, alloc: Global, table: &Table, firsts: &[u8]) -> Result<bool, OutOfMemory>
+    fn add_cell(
+        &mut self,
+        alloc: Global,
+        table: &Table,
+        firsts: &[u8],
+        movers: &Movers,
+    ) -> Result<bool, OutOfMemory>
         requires lawful { IsMachine (machine_of table.now) }
+        requires movers { AreMoversByClass (machine_of table.now) firsts.now (map (λ v. v.items) movers.now.lists.items) }
         requires low { (k : ℕ) → k < length firsts.now → slice_index firsts.now k < 256 }
         requires even { length self.old.nexts.items ≡ length self.old.starts.items }
         requires room { length self.old.nexts.items < length self.old.sets.lists.items * length firsts.now }
@@ -115,7 +124,7 @@ impl Found {
         let cell = self.nexts.len();
         let class = cell % firsts.len();
         let points = &self.sets.lists[cell / firsts.len()];
-        let backs = ways_back(alloc, table, points, firsts[class])?;
+        let backs = ways_back(alloc, table, points, firsts[class], movers.of_class(class))?;
         if let Some(like) = self.cell_like(cell - class, backs.as_slice()) {
             self.repeat(like)?;
             return Ok(true);
@@ -148,9 +157,10 @@ pub(crate) fn search(
         × (length f.nexts.items ≡ length f.starts.items)
         × (length f.nexts.items ≡ length f.sets.lists.items * length firsts.now))) }
 {
+    let movers = Movers::new(alloc, table, firsts)?;
     let mut found = Found::new(alloc, table, firsts)?;
     'cells: while found.nexts.len() < found.sets.lists.len() * firsts.len() {
-        if !found.add_cell(alloc, table, firsts)? {
+        if !found.add_cell(alloc, table, firsts, &movers)? {
             return Ok(None);
         }
     }

@@ -3,6 +3,8 @@ ghost use Rattle.std.specs.Prelude.{◌≡◌, ℕ, ◌<◌, ◌≤◌, [], ◌�
 ghost use Rattle.lf_core.specs.Marked.{IsMachine};
 ghost use Rattle.lf_core.specs.Written.{machine_of};
 ghost use Rattle.lf_tables.specs.Ways.{to_at, IsRising, GainsMoves, AreWays};
+ghost use Rattle.lf_tables.specs.Found.{AreRising};
+ghost use Rattle.lf_tables.specs.Movers.{AreMovers, GainsFrom};
 
 use lf_core::{Move, OutOfMemory};
 use lf_written::Table;
@@ -62,8 +64,48 @@ fn add_moves(backs: &mut Vec<Back>, before: usize, moves: &[Move]) -> Result<(),
     Ok(())
 }
 
-/// A way back from each point to which the byte leads from the points, in rising order.
-pub(crate) fn ways_back(
+/// Adds where the byte leads from the point, if it is one of the points.
+fn add_mover(
+    backs: &mut Vec<Back>,
+    table: &Table,
+    points: &[u32],
+    mover: u32,
+    byte: u8,
+) -> Result<(), OutOfMemory>
+    requires rising { IsRising backs.old.items }
+    requires points { AreRising points.now }
+    requires mover { mover < (machine_of table.now).count }
+    ensures { OnOk result (GainsFrom (machine_of table.now) points.now byte mover backs.old.items backs.new.items) }
+{
+    let Ok(before) = points.binary_search(&mover) else {
+        return Ok(());
+    };
+    add_moves(backs, before, table.moves(mover, byte))?;
+    Ok(())
+}
+
+/// A way back from each point to which the byte leads from the points, by the points from which it leads somewhere.
+fn ways_by_movers(
+    alloc: Global,
+    table: &Table,
+    points: &[u32],
+    byte: u8,
+    movers: &[u32],
+) -> Result<Vec<Back>, OutOfMemory>
+    requires points { (p : ℕ) → Contains points.now p → p < (machine_of table.now).count }
+    requires rising { AreRising points.now }
+    requires movers { AreMovers (machine_of table.now) byte (machine_of table.now).count movers.now }
+    ensures { IfOk result (λ backs. AreWays (machine_of table.now) points.now byte (length points.now) backs.items) }
+{
+    let mut backs = Vec::new(alloc);
+    for mover in movers {
+        add_mover(&mut backs, table, points, *mover, byte)?;
+    }
+    Ok(backs)
+}
+
+/// A way back from each point to which the byte leads from the points, by these one after another.
+fn ways_by_points(
     alloc: Global,
     table: &Table,
     points: &[u32],
@@ -77,6 +119,26 @@ pub(crate) fn ways_back(
         add_moves(&mut backs, place, table.moves(points[place], byte))?;
     }
     Ok(backs)
+}
+
+/// A way back from each point to which the byte leads from the points, in rising order.
+/// `movers` are the points from which the byte leads somewhere: the shorter list is gone through.
+pub(crate) fn ways_back(
+    alloc: Global,
+    table: &Table,
+    points: &[u32],
+    byte: u8,
+    movers: &[u32],
+) -> Result<Vec<Back>, OutOfMemory>
+    requires points { (p : ℕ) → Contains points.now p → p < (machine_of table.now).count }
+    requires rising { AreRising points.now }
+    requires movers { AreMovers (machine_of table.now) byte (machine_of table.now).count movers.now }
+    ensures { IfOk result (λ backs. AreWays (machine_of table.now) points.now byte (length points.now) backs.items) }
+{
+    if movers.len() < points.len() {
+        return ways_by_movers(alloc, table, points, byte, movers);
+    }
+    ways_by_points(alloc, table, points, byte)
 }
 
 /// The points that the ways lead back from.

@@ -1,4 +1,4 @@
-use Rattle.std.proofs.Common.{List, ℕ, subst}
+use Rattle.std.proofs.Common.{subst}
 use Rattle.lf_layout.specs.declared.layout.Layout.{Layout}
 use Rattle.lf_stamp.specs.Moments.{ReadsMoment}
 use Rattle.lf_scan.proofs.TimeTexts.{reads-moment}

@@ -7,12 +7,13 @@ use Rattle.lf_limits.specs.Limits.{most_sets}
 use Rattle.lf_tables.specs.declared.ways.Back.{Back}
 use Rattle.lf_tables.specs.Ways.{AreWays}
 use Rattle.lf_tables.specs.Tabled.{Cell, cells_of, cell_at, set_at, HasWays}
-use Rattle.lf_tables.specs.Found.{AreFound, HasNumber, HasNoRoom}
+use Rattle.lf_tables.specs.Found.{AreFound, HasNumber, HasNoRoom, AreRising}
+use Rattle.lf_tables.specs.Movers.{AreMovers}
 use Rattle.lf_tables.proofs.Reach.{reached_below}
 use Rattle.lf_tables.proofs.NumberLaws.{lists_of, length_lists, list_at}
 use Rattle.lf_tables.proofs.WayLaws.{tos}
 use Rattle.lf_tables.proofs.CellLaws.{length_cells, push_cells, next_at, start_at}
-use Rattle.lf_tables.proofs.FoundLaws.{set_low, like_found, more_found, found_stored, too_many}
+use Rattle.lf_tables.proofs.FoundLaws.{cell_set, set_low, like_found, more_found, found_stored, too_many}
 use Rattle.lf_tables.proofs.search.Found.add_cell.Goals as goal
 
 -- the points from which the cell leads
@@ -21,8 +22,8 @@ points_are lists cells firsts k v points e low is same =
     let here : v ≡ get_or lists (cells / firsts) v = subst (λ (i : ℕ). v ≡ get_or lists (i / firsts) v) e is in
     same ∙ list_at lists (cells / firsts) v (omega (arith, low, length_lists lists)) here
 
-pub ways_back-requires : goal.ways_back-requires
-ways_back-requires c =
+pub ways_back-requires-clause-points : goal.ways_back-requires-clause-points
+ways_back-requires-clause-points c =
     let m : Machine = machine_of c.args.table.now in
     let lists : List (Vec ℕ Global) = c.args.self.now.sets.lists.items in
     let nexts : List ℕ = c.args.self.now.nexts.items in
@@ -37,6 +38,25 @@ ways_back-requires c =
     let is : c.deref.result.now ≡ set_at (lists_of lists) (length cells / length firsts) = points_are lists (length cells) (length firsts) c.len-cell.result c.index-points.result.now c.deref.result.now k low c.index-points.ensures c.deref.ensures.value in
     let (line, of_bytes, reached) = c.requires.found.reached (length cells / length firsts) low in
     λ p h. reached_below m line (set_at (lists_of lists) (length cells / length firsts)) p c.requires.lawful reached (subst (λ (xs : List ℕ). Contains xs p) is h)
+
+pub ways_back-requires-clause-rising : goal.ways_back-requires-clause-rising
+ways_back-requires-clause-rising c =
+    let lists : List (Vec ℕ Global) = c.args.self.now.sets.lists.items in
+    let nexts : List ℕ = c.args.self.now.nexts.items in
+    let classes : ℕ = length c.args.firsts.now in
+    let room : length nexts < length (lists_of lists) * classes =
+    subst (λ (n : ℕ). length nexts < n * classes) (sym (length_lists lists)) c.requires.room in
+    let low : length nexts / classes < length (lists_of lists) = (cell_set (length nexts) classes (length (lists_of lists)) room).1 in
+    let k : c.len-cell.result ≡ length nexts = c.len-cell.ensures ∙ c.args.self.now.nexts.ok.0 in
+    let is : c.deref.result.now ≡ set_at (lists_of lists) (length nexts / classes) = points_are lists (length nexts) classes c.len-cell.result c.index-points.result.now c.deref.result.now k low c.index-points.ensures c.deref.ensures.value in
+    subst (λ (xs : List ℕ). AreRising xs) (sym is) (c.requires.found.rising (length nexts / classes) low)
+
+pub ways_back-requires-clause-movers : goal.ways_back-requires-clause-movers
+ways_back-requires-clause-movers c =
+    let m : Machine = machine_of c.args.table.now in
+    let class : ℕ = c.len-cell.result % length c.args.firsts.now in
+    let some : 0 < length c.args.firsts.now = (cell_set (length c.args.self.now.nexts.items) (length c.args.firsts.now) (length c.args.self.now.sets.lists.items) c.requires.room).0 in
+    subst (λ (xs : List ℕ). AreMovers m (get_or c.args.firsts.now class 0) m.count xs) (sym c.of_class.ensures) (c.requires.movers.1 class (omega (arith, some)))
 
 pub returns-in_default-2-clause-more : goal.returns-in_default-2-clause-more
 returns-in_default-2-clause-more c =

@@ -6,7 +6,7 @@ use Rattle.lf_core.specs.Written.{machine_of}
 use Rattle.lf_tables.specs.declared.ways.Back.{Back}
 use Rattle.lf_tables.specs.Ways.{GainsMoves}
 use Rattle.lf_tables.proofs.WayLaws.{more_ways}
-use Rattle.lf_tables.proofs.ways.ways_back.Goals as goal
+use Rattle.lf_tables.proofs.ways.ways_by_points.Goals as goal
 
 pub moves-requires : goal.moves-requires
 moves-requires c = c.requires (get_or c.args.points.now c.loop-place.place 0) (Contains-get_or c.args.points.now c.loop-place.place 0 c.loop-place-test.true)
